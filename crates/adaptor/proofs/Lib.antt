@@ -1,0 +1,4 @@
+pub mod Exact
+pub mod Whole
+pub mod Adapted
+pub mod OneJoint

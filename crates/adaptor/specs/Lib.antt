@@ -1,0 +1,4 @@
+pub mod Ways
+pub mod Joints
+pub mod Adaptors
+pub mod Joins

@@ -1,0 +1,5 @@
+pub mod Integers
+pub mod Ring
+pub mod Balance
+pub mod Offers
+pub mod Unique

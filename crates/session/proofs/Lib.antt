@@ -1,0 +1,4 @@
+pub mod Turnings
+pub mod Sums
+pub mod Speaking
+pub mod Fairness
