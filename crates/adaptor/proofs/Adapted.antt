@@ -15,7 +15,7 @@ use Rattle.adaptor.specs.Adaptors.{reads-at, adaptor-reads, nonzero, Passes, I
 use Rattle.adaptor.proofs.Whole.{fits-of, whole-sound, whole-fall, whole-cleared}
 use Rattle.adaptor.specs.declared.joints.joint.Joint.{Joint}
 
-fits-kept : (j : Joint) (a b a′ b′ : Readings) → Kept a a′ → Kept b b′ → fits j a′ b′ ≡ fits j a b
+pub fits-kept : (j : Joint) (a b a′ b′ : Readings) → Kept a a′ → Kept b b′ → fits j a′ b′ ≡ fits j a b
 fits-kept j a b a′ b′ h k = ap₂ (λ x y. x && y) (shows-kept (j .left) a a′ h) (shows-kept (j .right) b b′ k)
 
 -- ---- a joint that does not fit

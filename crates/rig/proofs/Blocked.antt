@@ -43,7 +43,7 @@ taken-two s i h =
     ap (λ n. take n s) e ∙ take-more s (2 * i + 1) 0 h ∙ ap (λ (t : List ℕ). t ++ (getD s (2 * i + 1) 0 ∷ [])) (take-more s (2 * i) 0 l) ∙ append-assoc (take (2 * i) s) _ _
 
 -- two bytes written behind a front of n
-written-two : (p s : List ℕ) (n x y : ℕ) → length p ≡ n → n + 1 < length s → set (set (p ++ drop n s) n x) (n + 1) y ≡ (p ++ (x ∷ y ∷ [])) ++ drop (n + 1 + 1) s
+pub written-two : (p s : List ℕ) (n x y : ℕ) → length p ≡ n → n + 1 < length s → set (set (p ++ drop n s) n x) (n + 1) y ≡ (p ++ (x ∷ y ∷ [])) ++ drop (n + 1 + 1) s
 written-two p s n x y e h =
     let a : n < length s = omega arith in
     let f : drop n s ≡ getD s n 0 ∷ (getD s (suc n) 0 ∷ drop (suc (suc n)) s) =

@@ -6,7 +6,9 @@ use Rattle.wave.specs.Numbers.{short}
 use Rattle.wave.specs.Terms.{Reduced}
 use Rattle.adaptor.specs.Ways.{whole-num, whole-den}
 use Rattle.adaptor.specs.declared.ways.Way.the-variants.{Series, Parallel}
+use Rattle.port.specs.declared.takings.Taken.{Taken}
 use Rattle.worked.specs.Line.{Fed, at-rest, next, feed}
+use Rattle.worked.specs.Door.{Door, door-reads, door-takes, Built}
 use Rattle.worked.specs.declared.Row.{Row}
 
 -- an integer below zero: minus 3 is negsuc 2
@@ -24,6 +26,12 @@ pub record Table : Type 0 where
       ≡ record { rising = pos 0; falling = pos 1701; absorbed = 1693366; shortened = 2; heard = pos 101; stored = 82525151 }
   pub second : feed (next at-rest (pos 1000)) (pos 0)
       ≡ record { rising = negsuc 1532; falling = pos 1075; absorbed = 13768704; shortened = 5; heard = pos 288; stored = 33693104 }
+  -- the same of every port that is built so
+  pub door-ratio : (d : Door) → Built d → (door-reads d .num ≡ 15066) × (door-reads d .den ≡ 517) × (door-reads d .rising ≡ pos 0)
+  pub door-first : (d z : Door) (t : Taken) → Built d → door-takes d (pos 1701) t z →
+      (t .absorbed ≡ 1693366) × (t .shortened ≡ 2) × (t .heard ≡ pos 101) × (door-reads z .stored ≡ 82525151) × (door-reads z .rising ≡ negsuc 1532)
+  pub door-second : (d z y : Door) (t u : Taken) → Built d → door-takes d (pos 1701) t z → door-takes z (pos 1075) u y →
+      (u .absorbed ≡ 13768704) × (u .shortened ≡ 5) × (u .heard ≡ pos 288) × (door-reads y .stored ≡ 33693104)
 
 -- a row of the code's table is what the definitions give
 pub record Told (x : Fed) (r : Row) : Type 0 where
