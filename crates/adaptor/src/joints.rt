@@ -188,6 +188,13 @@ impl Joint {
         self.left.shows(left) & self.right.shows(right)
     }
 
+    pub fn way(&self) -> Way
+        ensures { λ r. ⌜ r ≡ now (self .entry) .way ⌝ }
+    {
+        let way = self.way;
+        way
+    }
+
     pub fn ratio(&self) -> Ratio
         ensures { λ r. ⌜ r ≡ now (self .entry) .ratio ⌝ }
     {

@@ -13,20 +13,6 @@ pub use room::LINE_ROOM;
 pub use room::Line;
 
 impl Line {
-    /// All bytes of the line's room.
-    pub fn bytes(&self) -> [u8; 240]
-        ensures { λ r. ⌜ r ≡ now (self .entry) .bytes ⌝ }
-    {
-        self.bytes
-    }
-
-    /// How many bytes the line has.
-    pub fn len(&self) -> usize
-        ensures { λ r. ⌜ r ≡ now (self .entry) .len ⌝ }
-    {
-        self.len
-    }
-
     /// The line's own bytes, without the zeros behind.
     pub fn text(&self) -> &[u8]
         ensures { λ r. ⌜ now r ≡ text-of (now (self .entry)) ⌝ }

@@ -21,6 +21,7 @@ module _ {P C : Type 0} (reads : P → Readings) (takes : P → ℤ → Taken �
     pub pages : List Page
     pub through : Pieced reads takes clears answers (s .session .rig) (s .low) piece out pages (t .session .rig) (t .low)
     pub count : n ≡ length out
+    pub within : n ≤ length before
     pub written : after ≡ out ++ drop n before
 
   abbrev pub Filters : Stream P C → List ℕ → List ℕ → Option ℕ → Stream P C → List ℕ → Type 0
@@ -32,4 +33,5 @@ module _ {P C : Type 0} (reads : P → Readings) (takes : P → ℤ → Taken �
     pub out : List ℕ
     pub through : Pieced reads takes clears answers (s .session .rig) (s .low) (take (m .used) piece) out (listed (m .page)) (t .session .rig) (t .low)
     pub within : m .used ≤ length piece
+    pub some : 0 < length piece → 0 < m .used
     pub all : m .page ≡ None → m .used ≡ length piece

@@ -9,8 +9,8 @@ pub const LINE_ROOM: usize = 240;
 /// A line: its bytes, with zeros behind, and how many there are, fewer than there is room for.
 #[derive(Clone, Copy)]
 pub struct Line {
-    pub(crate) bytes: [u8; 240],
-    pub(crate) len: usize,
+    pub bytes: [u8; 240],
+    pub len: usize,
     ghost within: { len < line-room },
     ghost blank: { drop len bytes ≡ replicate (line-room - len) 0 },
 }

@@ -37,6 +37,7 @@ returns g c =
         pages = I .1;
         through = subst (λ (p : List ℕ). Pieced (g .P·Port .reads) (g .P·Port .takes) (g .P·Port .clears) (g .C·Closing .answers) (s .session .rig) (s .low) p (I .0) (I .1) (t .session .rig) (t .low)) e (I .2);
         count = I .3;
+        within = omega (arith, I .5);
         written = I .4;
       },
     )

@@ -19,6 +19,7 @@ returns-then-is-some g c =
       out = I .0 ++ heard-of (c .push .result);
       through = measured-more _ _ _ _ _ _ _ _ _ _ (c .args .piece .now) (I .0) (heard-of (c .push .result)) (c .loop-i .i) _ (c .filled-page .result) (omega arith) (c .filled-page .ensures) (I .1) (c .push .ensures .piece);
       within = omega arith;
+      some = λ _. omega arith;
       all = λ e. let q : true ≡ false = c .if-is-some .ensures tt ∙ ap isSome e in absurd (let z : _≡_ {A = ℕ} 0 1 = cc in omega arith);
     }
 

@@ -1,0 +1,3 @@
+mod Rest
+pub mod Kept
+pub mod Same

@@ -1,0 +1,44 @@
+//! A panel's filter: a listing tree behind a closing, with all that the rig promises, and the tail that dies.
+ghost use mathlib.Core.Path.{_≡_};
+ghost use Prim.Native.Nat.{ℕ};
+ghost use lib.IntN.{ℤ};
+ghost use Rattle.std.specs.declared.option.Option.the-variants.{None};
+ghost use Rattle.port.specs.Meaning.{Readings};
+ghost use Rattle.closing.specs.Meaning.{Bounded};
+ghost use Rattle.rig.specs.Pages.{Fresh};
+ghost use Rattle.rig.specs.Energy.{NeverMakesEnergy, StaysWithinOffers, RunsDown, PagesTellTheTruth};
+ghost use Rattle.stream.specs.Pieces.{Whatever-the-cuts};
+ghost use Rattle.panel.specs.Panels.{source-weight};
+ghost use Rattle.panel.specs.Tails.{tree-reads, tree-takes, tree-clears, TailDies};
+use closing::Closing;
+use closing::Source;
+use stream::Stream;
+use tree::ListingTree;
+use tree::ListingTreePort;
+
+/// A stream through the tree of a listing. Over a bounded closing its tail dies: in silence the rounds in which anything is heard number at most the
+/// energy stored when the silence began.
+pub fn listen<C: Closing>(tree: ListingTree, closing: C) -> Stream<ListingTree, C>
+    ensures made { λ s. ⌜ (s .session .rig .port ≡ tree) × (s .session .rig .closing ≡ closing) × (s .session .rig .number ≡ 0) × Fresh (tree-reads tree .stored) (s .session .rig .tally) × (s .low ≡ None) ⌝ }
+    ensures energy { λ s. ⌜ NeverMakesEnergy tree-reads tree-takes tree-clears (C·Closing .answers) (s .session .rig) ⌝ }
+    ensures offers { λ s. ⌜ ((offers : C → ℤ → ℕ) → Bounded (C·Closing .answers) offers → StaysWithinOffers tree-reads tree-takes tree-clears (C·Closing .answers) offers (s .session .rig)) ⌝ }
+    ensures silences { λ s. ⌜ ((offers : C → ℤ → ℕ) → Bounded (C·Closing .answers) offers → RunsDown tree-reads tree-takes tree-clears (C·Closing .answers) (s .session .rig)) ⌝ }
+    ensures tails { λ s. ⌜ ((offers : C → ℤ → ℕ) → Bounded (C·Closing .answers) offers → TailDies (C·Closing .answers) (s .session .rig)) ⌝ }
+    ensures pages { λ s. ⌜ PagesTellTheTruth tree-reads tree-takes tree-clears (C·Closing .answers) (s .session .rig) ⌝ }
+    ensures cuts { λ _. ⌜ Whatever-the-cuts {P = ListingTree} {C = C} tree-reads tree-takes tree-clears (C·Closing .answers) ⌝ }
+{
+    Stream::new(tree, closing, 0)
+}
+
+/// The weight of the source before a panel's line.
+pub const SOURCE_WEIGHT: u32 = 166;
+
+/// The source before a panel's line.
+pub fn source() -> Source
+    ensures { λ s. ⌜ s .weight .value ≡ source-weight ⌝ }
+{
+    match Source::new(SOURCE_WEIGHT) {
+        Ok(source) => source,
+        Err(_) => unreachable(),
+    }
+}

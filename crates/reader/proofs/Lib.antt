@@ -1,0 +1,10 @@
+pub mod Wording
+pub mod Parts
+pub mod Entering
+pub mod Few
+pub mod Saying
+pub mod Once
+pub mod Uses
+pub mod Steps
+pub mod Ending
+pub mod OneAnswer

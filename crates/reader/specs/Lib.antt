@@ -1,0 +1,7 @@
+pub mod Limits
+pub mod Lines
+pub mod Records
+pub mod Faults
+pub mod Answers
+pub mod Words
+pub mod Inner

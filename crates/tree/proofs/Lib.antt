@@ -1,0 +1,5 @@
+pub mod Leaves
+pub mod Law
+pub mod Caches
+pub mod Growing
+pub mod Heard

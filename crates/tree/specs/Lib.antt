@@ -1,0 +1,5 @@
+pub mod Elements
+pub mod Models
+pub mod Trees
+pub mod Growth
+pub mod Ears
