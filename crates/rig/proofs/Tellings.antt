@@ -8,18 +8,18 @@ use Rattle.std.proofs.shelf.Signed.{ints}
 use Rattle.std.specs.declared.result.Result.the-variants.{Ok, Err}
 use Rattle.wave.specs.Numbers.{sq}
 use Rattle.wave.specs.declared.ratios.lowest.Ratio.{Ratio}
-use Rattle.port.specs.Meaning.{Readings}
+use Rattle.port.specs.Meaning.{Readings, Laws}
 use Rattle.port.specs.declared.takings.Taken.{Taken}
-use Rattle.rig.specs.Pages.{Fresh, Entered}
+use Rattle.rig.specs.Pages.{Fresh, Entered, page-of}
 use Rattle.rig.specs.Steps.{Rounded, Emptied}
 use Rattle.rig.specs.Runs.{Event, Run, Step, All, Turns, of-round, of-clear, sum, entries, absorbed, dropped, shortened, swing}
 use Rattle.rig.specs.Runs.Event.{feed, raise, answer, withdraw, clear, turn}
 use Rattle.rig.specs.Runs.Run.{done, next}
-use Rattle.rig.specs.Energy.{Begins, PagesTellTheTruth}
+use Rattle.rig.specs.Energy.{Begins, Tells, PagesTellTheTruth}
 use Rattle.rig.specs.declared.pages.Round.{Round}
 use Rattle.rig.specs.declared.parts.Rig.{Rig}
 use Rattle.rig.specs.declared.parts.Tally.{Tally}
-use Rattle.rig.proofs.Runs.{rose, fell}
+use Rattle.rig.proofs.Runs.{rose, fell, whole, never-makes-energy}
 
 -- q is p and the calls ys
 record Added (p : Tally) (ys : List Event) (q : Tally) : Type 0 where
@@ -117,11 +117,14 @@ module _ {P C : Type 0} (reads : P → Readings) (takes : P → ℤ → Taken �
   begun done k f = f
   begun (next x s r) k f = last-turned (next x s r) k
 
-  pub pages-tell : (a : Rig P C) → Begun a → PagesTellTheTruth reads takes clears answers a
+module _ {P C : Type 0} (reads : P → Readings) (takes : P → ℤ → Taken → P → Type 0) (clears : P → ℕ → P → Type 0) (laws : Laws reads takes clears)
+    (answers : C → ℤ → ℤ → Ratio → ℤ) where
+  pub pages-tell : (a : Rig P C) → Begun reads takes clears answers a → PagesTellTheTruth reads takes clears answers a
   pages-tell a f xs ys b z r q k n =
-      let B = begun r k f in
-      let A = stretch q n in
-      record {
+      let B = begun reads takes clears answers r k f in
+      let A = stretch reads takes clears answers q n in
+      let M = whole reads takes clears laws answers q in
+      let t : Tells (page-of (z .tally) (reads (z .port) .stored)) (reads (b .port) .stored) ys (reads (z .port) .stored) = record {
         entries = omega (arith, A .entered, B .entries);
         start = A .start ∙ B .start;
         end = refl;
@@ -129,4 +132,5 @@ module _ {P C : Type 0} (reads : P → Readings) (takes : P → ℤ → Taken �
         dropped = omega (arith, A .drops, B .dropped);
         shortened = omega (arith, A .shortens, B .shortened);
         swing = A .swings ∙ ap (λ w. w +ℤ swing ys) (B .swing) ∙ omega (arith, ints);
-      }
+      } in
+      (t, simp (M .num, M .den, t .start, t .absorbed, t .dropped, t .shortened, t .swing) (never-makes-energy reads takes clears laws answers b ys z q))

@@ -29,6 +29,10 @@ pub record Tells (p : Page) (S : ℕ) (ys : List Event) (T : ℕ) : Type 0 where
   pub shortened : p .shortened ≡ shortened ys
   pub swing : p .swing ≡ swing ys
 
+-- the page p of a port of ratio n/d balances by itself
+abbrev pub PageBalance : ℕ → ℕ → Page → Type 0
+PageBalance n d p = Balance n d (p .start) (p .end) (p .absorbed + p .dropped) (p .shortened) (p .swing)
+
 -- after these calls a page begins: there was none, or the last was an accepted turn
 abbrev pub Begins : List Event → Type 0
 Begins [] = Unit {0}
@@ -53,7 +57,10 @@ module _ {P C : Type 0} (reads : P → Readings) (takes : P → ℤ → Taken �
   RunsDown a = (xs ys : List Event) (b z : Rig P C) → Run reads takes clears answers a xs b → Run reads takes clears answers b ys z
       → All (Feeds (λ e. e ≡ pos 0)) ys → busy ys ≤ reads (b .port) .stored
 
-  -- the page tells the truth: its count and sums are those of the calls ys since the last accepted turn, or since the making
+  -- the page tells the truth: its count and sums are those of the calls ys since the last accepted turn, or since the making; and so rounding made no
+  -- energy on it either
   abbrev pub PagesTellTheTruth : Rig P C → Type 0
   PagesTellTheTruth a = (xs ys : List Event) (b z : Rig P C) → Run reads takes clears answers a xs b → Run reads takes clears answers b ys z
-      → Begins xs → All (λ x. Turns x → ⊥) ys → Tells (page-of (z .tally) (reads (z .port) .stored)) (reads (b .port) .stored) ys (reads (z .port) .stored)
+      → Begins xs → All (λ x. Turns x → ⊥) ys
+      → Tells (page-of (z .tally) (reads (z .port) .stored)) (reads (b .port) .stored) ys (reads (z .port) .stored)
+      × PageBalance (reads (z .port) .num) (reads (z .port) .den) (page-of (z .tally) (reads (z .port) .stored))

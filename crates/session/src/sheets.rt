@@ -15,8 +15,9 @@ fn show_balances<W: fmt::Write>(
     )?;
     writeln!(
         f,
-        "entries                   {:>25} {:>36}",
-        spoken.entries, ended.entries
+        "rounds                    {:>25} {:>36}",
+        spoken.entries,
+        ended.entries.saturating_sub(1)
     )?;
     writeln!(
         f,

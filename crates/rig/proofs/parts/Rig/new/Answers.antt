@@ -19,5 +19,5 @@ returns g c =
       energy = never-makes-energy reads takes clears laws answers _;
       offers = λ offers bound. stays-within-offers reads takes clears laws answers offers bound _;
       silences = λ offers bound. runs-down reads takes clears laws answers offers bound _;
-      pages = pages-tell reads takes clears answers _ (subst (λ (S : ℕ). Fresh S (c .fresh-tally .result)) (c .stored .ensures) (c .fresh-tally .ensures));
+      pages = pages-tell reads takes clears laws answers _ (subst (λ (S : ℕ). Fresh S (c .fresh-tally .result)) (c .stored .ensures) (c .fresh-tally .ensures));
     }
