@@ -90,33 +90,45 @@ fn run(tree: &mut ListingTree, turns: u32) -> Sums {
     sums
 }
 
+// A run of the tree and its sums; answers the nanoseconds that it took.
+fn timed(rt: &LibcRuntime, name: &str, tree: &mut ListingTree, turns: u32) -> io::Result<u128> {
+    let start = Instant::now(rt)?;
+    let sums = run(tree, turns);
+    let took = start.elapsed(rt)?.as_nanos();
+    println!(
+        rt,
+        "{name}: {turns} takes, absorbed {}, shortened {}, heard {}, rising {}",
+        sums.absorbed, sums.shortened, sums.heard, sums.rising
+    )?;
+    Ok(took)
+}
+
 fn main(rt: LibcRuntime) -> io::Result<()> {
-    let mut timed = false;
+    let mut long = false;
     for word in env::args(&rt)? {
-        timed = timed | (word.as_str() == "time");
+        long = long | (word.as_str() == "time");
     }
-    let turns = if timed { LONG_RUN } else { SHORT_RUN };
+    let turns = if long { LONG_RUN } else { SHORT_RUN };
     let mut room = Room::new(rt.alloc(), 66)?;
-    for (name, built) in [
-        ("door", door(&mut room)),
-        ("32 capacitors", capacitors(&mut room)),
-    ] {
-        match built {
-            Some(tree) => {
-                let mut tree = tree;
-                let start = Instant::now(&rt)?;
-                let sums = run(&mut tree, turns);
-                let nanos = start.elapsed(&rt)?.as_nanos();
-                println!(
-                    rt,
-                    "{name}: {turns} takes, absorbed {}, shortened {}, heard {}, rising {}",
-                    sums.absorbed, sums.shortened, sums.heard, sums.rising
-                )?;
-                if timed {
-                    println!(rt, "{name}: {} ns a take", nanos / 10000000)?;
-                }
-            }
-            None => println!(rt, "{name}: refused")?,
+    let Some(mut line) = door(&mut room) else {
+        return println!(rt, "door: refused");
+    };
+    let Some(mut bank) = capacitors(&mut room) else {
+        return println!(rt, "32 capacitors: refused");
+    };
+    println!(
+        rt,
+        "door: ratio {}/{}",
+        line.ratio().num(),
+        line.ratio().den()
+    )?;
+    let small = timed(&rt, "door", &mut line, turns)?;
+    let large = timed(&rt, "32 capacitors", &mut bank, turns)?;
+    if long {
+        println!(rt, "door: {} ns a take", small / 10000000)?;
+        println!(rt, "32 capacitors: {} ns a take", large / 10000000)?;
+        if small > 0 {
+            println!(rt, "32 capacitors take {} times as long", large / small)?;
         }
     }
     Ok(())

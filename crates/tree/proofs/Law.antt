@@ -7,8 +7,9 @@ use lib.IntN.{ℤ, pos, natAbs}
 use Rattle.wave.specs.Numbers.{largest-wave, most-energy}
 use Rattle.port.specs.Meaning.{largest-size, Readings, Sound, Kept, Fall, Cleared}
 use Rattle.port.specs.declared.takings.Taken.{Taken}
-use Rattle.port.proofs.Shown.{and-left, and-right, shows-kept}
+use Rattle.port.proofs.Shown.{and-left, and-right}
 use Rattle.adaptor.specs.Joints as joints
+use Rattle.adaptor.proofs.Adapted.{fits-kept}
 use Rattle.adaptor.proofs.Whole.{Fits, fits-of, whole-sound, whole-fall, whole-cleared}
 use Rattle.adaptor.specs.declared.joints.joint.Joint.{Joint}
 use Rattle.tree.specs.Models.{Model, leaf, join, reads, fitted, to-left, to-right, taken, answer, cleared, Took, Emptied}
@@ -70,9 +71,6 @@ answer-most m f t h e =
     subst Most (sym e) (record { absorbed = omega (arith, S, F .absorbs); shortened = omega (arith, S, F .counts); heard = F .hears })
 
 -- ---- a joint fits its parts as long as they live
-fits-kept : (j : Joint) (a b a′ b′ : Readings) → Kept a a′ → Kept b b′ → joints.fits j a′ b′ ≡ joints.fits j a b
-fits-kept j a b a′ b′ h k = ap₂ (λ x y. x && y) (shows-kept (j .left) a a′ h) (shows-kept (j .right) b b′ k)
-
 kept-taken : (m : Model) (f : ℤ) → Kept (reads m) (reads (taken m f))
 kept-taken (leaf e) f = element-fall e f .keeps
 kept-taken (join j a b) f = record { num = refl; den = refl; size = refl; ears = refl }

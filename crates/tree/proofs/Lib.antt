@@ -3,3 +3,4 @@ pub mod Law
 pub mod Caches
 pub mod Growing
 pub mod Heard
+pub mod Reading

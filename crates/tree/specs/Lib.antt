@@ -3,3 +3,4 @@ pub mod Models
 pub mod Trees
 pub mod Growth
 pub mod Ears
+pub mod Shapes

@@ -80,9 +80,9 @@ pub impl Port for Element as ElementPort {
     fn take(&mut self, f: i32) -> Taken {
         match self.body {
             Body::Store(kept) => {
-                let mut c = kept;
-                let taken = c.take(f);
-                self.body = Body::Store(c);
+                let mut after = kept;
+                let taken = after.take(f);
+                self.body = Body::Store(after);
                 taken
             }
             Body::Resist(kept) => {

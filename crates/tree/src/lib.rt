@@ -3,6 +3,7 @@ pub mod elements;
 pub mod grown;
 pub mod listed;
 pub mod rooms;
+pub mod shapes;
 mod trees;
 
 pub use elements::Body;
@@ -13,3 +14,4 @@ pub use grown::Refusal;
 pub use listed::ListingTree;
 pub use listed::ListingTreePort;
 pub use rooms::Room;
+pub use shapes::Step;
