@@ -8,8 +8,16 @@ ghost use Rattle.closing.specs.Meaning.{Bounded};
 ghost use Rattle.rig.specs.Pages.{Fresh};
 ghost use Rattle.rig.specs.Energy.{NeverMakesEnergy, StaysWithinOffers, RunsDown, PagesTellTheTruth};
 ghost use Rattle.stream.specs.Pieces.{Whatever-the-cuts};
-ghost use Rattle.panel.specs.Panels.{source-weight};
+ghost use lib.Chars.{codes};
+ghost use Rattle.std.specs.Results.{Cases};
+ghost use Rattle.tree.specs.Trees.{model};
+ghost use Rattle.assembly.specs.Assemblies.{Accepts, Refuses};
+ghost use Rattle.panel.specs.Panels.{source-weight, panel-rate, panel-unit};
 ghost use Rattle.panel.specs.Tails.{tree-reads, tree-takes, tree-clears, TailDies};
+use assembly::Assembled;
+use assembly::AssemblyFault;
+use assembly::Workspace;
+use assembly::assemble;
 use closing::Closing;
 use closing::Source;
 use stream::Stream;
@@ -41,4 +49,23 @@ pub fn source() -> Source
         Ok(source) => source,
         Err(_) => unreachable(),
     }
+}
+
+/// The rate of a panel's samples, in hertz.
+pub const RATE: u32 = 16000;
+
+/// The unit of a panel's weights, in nanosiemens.
+pub const UNIT: u32 = 10000;
+
+/// Writes the tree of a listing into the place, with the panel's rate and unit and the ear on the resistor `R1`; a refusal leaves the place as it was.
+pub fn prepare(
+    text: &[u8],
+    space: Workspace,
+    place: &mut ListingTree,
+) -> Result<Assembled, AssemblyFault>
+    ensures { λ r. ⌜ Cases r
+        (λ a. Accepts (now (text .entry)) panel-rate panel-unit (codes "R1") (model (now (place .exit) .tree)) a)
+        (λ f. Refuses (now (text .entry)) panel-rate panel-unit (codes "R1") f × (now (place .exit) ≡ now (place .entry))) ⌝ }
+{
+    assemble(text, RATE, UNIT, b"R1", space, place)
 }

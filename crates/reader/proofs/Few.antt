@@ -75,13 +75,6 @@ module _ (t : List ℕ) (a b : ℕ) (few fs : List Span) (cut : FieldsIn t a b f
   few-short : (n : ℕ) → length fs < n → length few < n
   few-short n l = ⊎-elim (λ x. omega (arith, x .0, x .1)) (λ x. omega (arith, x .0)) count-few
 
-  pub few-ordered : 2 < length few → nth few 1 .place ≤ nth few 2 .place
-  few-ordered l =
-      let m = long-few 2 l in
-      let x = nth-between t a b fs 1 cut (omega arith) in
-      let y = fields-ascend t a b fs nowhere 1 2 cut (omega arith) m in
-      omega (arith, x .1, y, ap (λ (f : Span). f .place) (nth-few 1 (omega arith)), ap (λ (f : Span). f .place) (nth-few 2 (omega arith)))
-
   module _ (kd : LineKind) (es : List Element) (ns : List Node) (P : Type 0) where
     abbrev G : List Span → ℕ → Rule → Type 0
     G xs = LineFaultBy t a b xs kd (Among (λ e. e .name) t es (bytes t (nth xs 0))) (mostElements ≤ length es) P (CrowdedFirst t ns xs) (CrowdedSecond t ns xs)

@@ -46,7 +46,7 @@ later t q q′ l m h = record { before = omega (arith, h .before); starts = h .s
 pub closed-later : (t : List ℕ) (q q′ : ℕ) → q ≤ q′ → Closed t q → Closed t q′
 closed-later t q q′ l x = (x .0, later t q q′ (x .0) l (x .1), x .2, x .3)
 
--- a line stands as one lineKind
+-- a line stands as one kind
 pub stands-same : (t : List ℕ) (l : Line) (kd kd′ : LineKind) → Stands t l kd → Stands t l kd′ → kd ≡ kd′
 stands-same t l kd kd′ a b =
     ⊎-elim
@@ -347,7 +347,7 @@ module _ {t : List ℕ} {q : ℕ} {closed : Bool} {ns : List Node} {es : List El
               ascends = r .ascends;
             }
 
-        -- `place` is where the first field starts, and a line of lineKind K has one
+        -- `place` is where the first field starts, and a line of kind K has one
         pub records-more : ((l : Line) → K l → 0 < length (l .fields)) → ((l : Line) (x : X) → Is′ l x → place x ≡ nth (l .fields) 0 .place) → (e : X) → K here → Is′ here e → Records K Is′ place t q′ (xs ++ e ∷ [])
         records-more some at e is made =
             record {
@@ -488,19 +488,3 @@ module _ {t : List ℕ} {q : ℕ} {closed : Bool} {ns : List Node} {es : List El
             ports = records-more (PortLine t) (PortIs t ns) (PortIs t ns′) (port-lift mid ns′ one two) (λ p. p .name .place) ps (h .ports) (port-some t) (λ l x y. ap (λ s. s .place) (y .name)) p port made;
             names = no-part part;
           }
-
--- nothing is read yet
-pub begin : (t : List ℕ) → 0 < length t → Sofar t 0 false [] [] []
-begin t some =
-    let nothing : (l : Line) → LineIn t 0 l → ⊥ = λ l x. omega (arith, x .before) in
-    record {
-      top = omega arith;
-      begins = λ l. (l, inl refl);
-      shut = λ e. let y : _≡_ {A = ℕ} 0 1 = cc in absurd (omega arith);
-      still = λ _ x. nothing (x .0) (x .1);
-      clean = λ p r y. nothing (y .0) (y .2);
-      nodes = record { sound = λ k d low l. absurd (omega arith); complete = λ s u. absurd (omega (arith, u .early)); ascends = λ i j d l m. absurd (omega arith) };
-      elements = record { sound = λ k d low l. absurd (omega arith); complete = λ l x. absurd (nothing l (x .0)); ascends = λ i j d l m. absurd (omega arith) };
-      ports = record { sound = λ k d low l. absurd (omega arith); complete = λ l x. absurd (nothing l (x .0)); ascends = λ i j d l m. absurd (omega arith) };
-      names = ([], record { sound = λ k d low l. absurd (omega arith); complete = λ l x. absurd (nothing l (x .0)); ascends = λ i j d l m. absurd (omega arith) }, refl);
-    }

@@ -23,7 +23,7 @@ pub record Listed {Y X : Type 0} (From : Y → Type 0) (Is : Y → X → Type 0)
   pub complete : (y : Y) → From y → (x : X) × Has xs x × Is y x
   pub ascends : (i j : ℕ) (d : X) → i < j → j < length xs → place (getD xs i d) < place (getD xs j d)
 
--- what is read from the lines of lineKind K that start before q, where Is tells what a line says
+-- what is read from the lines of kind K that start before q, where Is tells what a line says
 abbrev pub ReadFrom : {X : Type 0} → (Line → Type 0) → (Line → X → Type 0) → List ℕ → ℕ → X → Type 0
 ReadFrom K Is t q x = (l : Line) × LineIn t q l × K l × Is l x
 

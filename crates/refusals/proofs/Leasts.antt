@@ -1,5 +1,5 @@
 -- The first of the faults of two kinds is the first of the two firsts.
-use mathlib.Core.Path.{_≡_, refl, subst}
+use mathlib.Core.Path.{_≡_, subst}
 use mathlib.Core.Bool.{true, false}
 use mathlib.Core.Logic.{_⊎_, inl, inr, ⊎-elim}
 use Prim.Native.Nat.{ℕ, _+_, _<_}
@@ -11,10 +11,6 @@ use Rattle.std.proofs.shelf.Ways.{tells}
 use Rattle.refusals.specs.declared.Rule.{Rule}
 use Rattle.refusals.specs.declared.Fault.{Fault}
 use Rattle.refusals.specs.Order.{NotBefore, Least, goes-before, first-of}
-
-pub first-of-none : (o : Option Fault) → o ≡ first-of o None
-first-of-none None = refl
-first-of-none (Some f) = refl
 
 -- of two faults, the one that goes before is not after the other
 pub first-yes : (f g : Fault) → goes-before g f ≡ true → NotBefore g (f .place) (f .rule)

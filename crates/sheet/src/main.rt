@@ -1,31 +1,39 @@
-// Feeds samples through the door line, lets it run down in silence, and prints the balance sheet.
-mod door;
+// The balance sheet of a recording: the listing's elements with their weights, its tree and ratio, what was stored, absorbed, dropped and shortened,
+// and how the silence after it went; or the refusal of the listing in words.
+mod parts;
+mod told;
 
-use adaptor::AdaptorPort;
-use closing::Source;
+use assembly::Workspace;
 use closing::SourceBounded;
 use closing::SourceClosing;
-use port::ResistorPort;
-use port::StoragePort;
+use panel::prepare;
+use panel::source;
 use session::ReportDisplay;
 use session::report_on;
 use std::error::AnyError;
+use std::fs;
 use std::io::Read;
+use tree::ListingTree;
+use tree::ListingTreePort;
 
 fn main(rt: LibcRuntime) -> Result<(), AnyError> {
     rt.report(run(&rt))
 }
 
 fn run(rt: &LibcRuntime) -> Result<(), AnyError> {
+    let text = match fs::read(rt, "line.cir") {
+        Ok(text) => text,
+        Err(_) => Vec::new(rt.alloc()),
+    };
+    let mut tree = ListingTree::built_in();
+    if let Err(fault) = prepare(&text, Workspace::new(rt.alloc())?, &mut tree) {
+        return told::refused(rt, &text, &fault);
+    }
+    parts::print_elements(rt, &text)?;
+    parts::print_tree(rt, &text, &tree)?;
     let mut samples = Vec::new(rt.alloc());
     rt.stdin().read_to_end(&mut samples)?;
-    let Ok(line) = door::line() else {
-        return Err("the door line cannot be joined".into());
-    };
-    let Ok(source) = Source::new(door::SOURCE) else {
-        return Err("the source has no weight".into());
-    };
-    let Ok(report) = report_on(line, source, &samples) else {
+    let Ok(report) = report_on(tree, source(), &samples) else {
         return Err("the recording is too long".into());
     };
     print!(rt, "{report}")?;

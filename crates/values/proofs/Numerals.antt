@@ -27,9 +27,6 @@ digit-range c h = (grind (arith, tells), grind (arith, tells))
 pub ten-more : (n i d : ℕ) → n < 10 ^ i → d < 10 → n * 10 + d < 10 ^ (i + 1)
 ten-more n i d h l = rw (add-one, pow-suc) (omega arith)
 
-pub ten-six : (n i : ℕ) → i < 6 → n < 10 ^ i → n < 100000
-ten-six n i l h = let k : i ≤ 5 = omega arith in let z : 0 < 10 = omega arith in let m : 10 ^ i ≤ 10 ^ 5 = pow-le-pow-right z k in omega arith
-
 pub six-digits : (n i : ℕ) → i ≤ 6 → n < 10 ^ i → n < 1000000
 six-digits n i l h = let z : 0 < 10 = omega arith in let m : 10 ^ i ≤ 10 ^ 6 = pow-le-pow-right z l in omega arith
 

@@ -1,0 +1,5 @@
+pub mod Limits
+pub mod Branches
+pub mod Beginnings
+pub mod Inner
+pub mod Assemblies

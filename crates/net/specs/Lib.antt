@@ -1,0 +1,4 @@
+pub mod Wires
+pub mod Choices
+pub mod Searches
+pub mod Reductions
