@@ -18,9 +18,14 @@ import tempfile
 
 ROOT = os.path.dirname(os.path.dirname(os.path.abspath(__file__)))
 RATE, UNIT, SOURCE = 16000, 10_000e-9, 166
-AMPLITUDE, SECONDS, SETTLE = 24000, 1.0, 0.25
+SECONDS, SETTLE = 1.0, 0.25
 POINTS = 25
 LIMIT = 0.2
+
+
+def amplitude(f):
+    """As loud as the line takes without a wave being held: at low frequencies the coil's waves are more than five times the sample's."""
+    return 12000 if f < 2000 else 24000
 
 
 def warped(f):
@@ -46,7 +51,7 @@ def spice(frequencies):
 def filtered(f):
     """The gain of the filter program, in decibels."""
     n, skip = int(RATE * SECONDS), int(RATE * SETTLE)
-    wave = [round(AMPLITUDE * math.sin(2 * math.pi * f * k / RATE)) for k in range(n)]
+    wave = [round(amplitude(f) * math.sin(2 * math.pi * f * k / RATE)) for k in range(n)]
     raw = struct.pack(f"<{n}h", *wave)
     out = subprocess.run([os.path.join(ROOT, "target/bin/filter")], input=raw, capture_output=True, cwd=os.path.join(ROOT, "examples")).stdout
     heard = struct.unpack(f"<{n}h", out)

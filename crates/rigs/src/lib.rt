@@ -3,11 +3,13 @@
 ghost use mathlib.Core.Path.{_≡_};
 ghost use mathlib.Core.Bool.{true, false};
 ghost use Prim.Native.Nat.{_≤_};
-ghost use lib.IntN.{natAbs};
+ghost use lib.IntN.{pos, natAbs};
 ghost use Rattle.wave.specs.Numbers.{largest-wave};
 ghost use Rattle.rig.specs.Steps.{Fits, Kept};
 use closing::Closing;
 use port::Port;
+use port::Resistor;
+use port::ResistorPort;
 use rig::HandedBack;
 use rig::OpenWave;
 use rig::Refusal;
@@ -74,6 +76,20 @@ fn foreign<P: Port, C: Closing>(rig: &mut Rig<P, C>, wave: OpenWave, f: i32) -> 
     (wave, answered, refusal.number())
 }
 
+/// What a rig over a resistor, which raises 0, answers to a wave of its own number that is not 0: it is handed back, and nothing changes.
+fn other_wave<C: Closing>(rig: &mut Rig<Resistor, C>, wave: OpenWave, f: i32) -> (OpenWave, u32)
+    requires { ⌜ (wave .rising .value ≡ pos 0 → ⊥) ⌝ }
+    ensures { λ r. ⌜ r .0 ≡ wave ⌝ ∗ ⌜ now (rig .exit) ≡ now (rig .entry) ⌝ }
+{
+    match rig.answer(wave, f) {
+        Ok(_) => unreachable(),
+        Err(back) => {
+            let HandedBack { wave, refusal } = back;
+            (wave, refusal.number())
+        }
+    }
+}
+
 #[cfg(test)]
 mod tests {
     use super::*;
@@ -87,8 +103,6 @@ mod tests {
     use closing::SourceClosing;
     use closing::Stiff;
     use closing::StiffClosing;
-    use port::Resistor;
-    use port::ResistorPort;
     use port::Storage;
     use port::StoragePort;
     use rig::PAGE_LENGTH;
@@ -236,5 +250,36 @@ mod tests {
             [0, 33693104, 15462070, 0, 7],
         )?;
         check_eq(page.swing, 1698937)
+    }
+
+    fn resistor(weight: u32) -> Result<Resistor, Fail> {
+        match Resistor::new(weight, true) {
+            Ok(x) => Ok(x),
+            Err(_) => Err(Fail::new("no weight")),
+        }
+    }
+
+    #[test]
+    fn a_wave_of_the_same_number_that_is_another() -> Result<(), Fail> {
+        let mut first = Rig::new(capacitor(5)?, Stiff, 7);
+        let mut second = Rig::new(resistor(9)?, Stiff, 7);
+        check_eq(number(first.feed(100)), 0)?;
+        let Ok(wave) = first.raise() else {
+            return Err(Fail::new("not raised"));
+        };
+        let Ok(own) = second.raise() else {
+            settle(&mut first, wave);
+            return Err(Fail::new("not raised"));
+        };
+        if wave.rising().get() == 0 {
+            settle(&mut first, wave);
+            settle(&mut second, own);
+            return Err(Fail::new("nothing rose"));
+        }
+        let (wave, answered) = other_wave(&mut second, wave, 3);
+        settle(&mut second, own);
+        settle(&mut first, wave);
+        check_eq(answered, 19)?;
+        check_eq(second.entries(), 0)
     }
 }
