@@ -1,4 +1,2 @@
 pub mod Turnings
 pub mod Sums
-pub mod Speaking
-pub mod Fairness

@@ -15,8 +15,7 @@ use Rattle.rig.specs.Runs.{Event, All, Feeds, sum, entries, absorbed, dropped, 
 use Rattle.rig.specs.Runs.Event.{feed, raise, answer, withdraw, clear, turn}
 use Rattle.rig.specs.declared.pages.Page.{Page}
 use Rattle.rig.specs.declared.pages.Round.{Round}
-use Rattle.session.specs.Sessions.{turns}
-use Rattle.session.specs.Reports.{fed, idle-after}
+use Rattle.session.specs.Sessions.{turns, fed}
 
 pub sum-++ : (g : Event → ℕ) (xs ys : List Event) → sum g (xs ++ ys) ≡ sum g xs + sum g ys
 sum-++ g [] ys = omega arith
@@ -41,17 +40,6 @@ fed-++ (answer w f o ∷ xs) ys = fed-++ xs ys
 fed-++ (withdraw w o ∷ xs) ys = fed-++ xs ys
 fed-++ (clear o ∷ xs) ys = fed-++ xs ys
 fed-++ (turn o ∷ xs) ys = fed-++ xs ys
-
-pub idle-++ : (xs ys : List Event) (n : ℕ) → idle-after n (xs ++ ys) ≡ idle-after (idle-after n xs) ys
-idle-++ [] ys n = refl
-idle-++ (feed e (Ok x) ∷ xs) ys n = idle-++ xs ys (cond (eqb (x .shortened + x .absorbed) 0) (n + 1) 0)
-idle-++ (feed e (Err y) ∷ xs) ys n = idle-++ xs ys n
-idle-++ (raise o ∷ xs) ys n = idle-++ xs ys n
-idle-++ (answer w f (Ok x) ∷ xs) ys n = idle-++ xs ys (cond (eqb (x .shortened + x .absorbed) 0) (n + 1) 0)
-idle-++ (answer w f (Err y) ∷ xs) ys n = idle-++ xs ys n
-idle-++ (withdraw w o ∷ xs) ys n = idle-++ xs ys n
-idle-++ (clear o ∷ xs) ys n = idle-++ xs ys n
-idle-++ (turn o ∷ xs) ys n = idle-++ xs ys n
 
 pub all-++ : (Q : Event → Type 0) (xs ys : List Event) → All Q xs → All Q ys → All Q (xs ++ ys)
 all-++ Q [] ys h k = k
@@ -88,10 +76,6 @@ round-busy e x (Some p) = omega arith
 pub round-fed : (e : ℤ) (x : Round) (p : Option Page) → fed (feed e (Ok x) ∷ turns p) ≡ e ∷ []
 round-fed e x None = refl
 round-fed e x (Some p) = refl
-
-pub round-idle : (n : ℕ) (e : ℤ) (x : Round) (p : Option Page) → idle-after n (feed e (Ok x) ∷ turns p) ≡ cond (eqb (x .shortened + x .absorbed) 0) (n + 1) 0
-round-idle n e x None = refl
-round-idle n e x (Some p) = refl
 
 pub round-feeds : (Q : ℤ → Type 0) (e : ℤ) (x : Round) (p : Option Page) → Q e → All (Feeds Q) (feed e (Ok x) ∷ turns p)
 round-feeds Q e x None h = (h, tt)

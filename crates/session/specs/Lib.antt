@@ -1,3 +1,1 @@
 pub mod Sessions
-pub mod Accounts
-pub mod Reports

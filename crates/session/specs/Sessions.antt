@@ -15,7 +15,7 @@ use Rattle.port.specs.declared.takings.Taken.{Taken}
 use Rattle.rig.specs.Limits.{page-length}
 use Rattle.rig.specs.Steps.{Renewed}
 use Rattle.rig.specs.Runs.{Event, Run}
-use Rattle.rig.specs.Runs.Event.{feed, clear, turn}
+use Rattle.rig.specs.Runs.Event.{feed, raise, answer, withdraw, clear, turn}
 use Rattle.rig.specs.declared.pages.Page.{Page}
 use Rattle.rig.specs.declared.pages.Round.{Round}
 use Rattle.rig.specs.declared.parts.Rig.{Rig}
@@ -27,6 +27,17 @@ use Rattle.session.specs.declared.sessions.turning.Entry.{Entry}
 abbrev pub turns : Option Page → List Event
 turns None = []
 turns (Some p) = turn (Ok p) ∷ []
+
+-- the samples that some calls fed
+abbrev pub fed : List Event → List ℤ
+fed [] = []
+fed (feed e (Ok x) ∷ xs) = e ∷ fed xs
+fed (feed e (Err y) ∷ xs) = fed xs
+fed (raise o ∷ xs) = fed xs
+fed (answer w f o ∷ xs) = fed xs
+fed (withdraw w o ∷ xs) = fed xs
+fed (clear o ∷ xs) = fed xs
+fed (turn o ∷ xs) = fed xs
 
 -- there is a page exactly if a had one entry left
 abbrev pub Fills : {P C : Type 0} → Rig P C → Option Page → Type 0

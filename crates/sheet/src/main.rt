@@ -1,6 +1,7 @@
 // The balance sheet of a recording: the listing's elements with their weights, its tree and ratio, what was stored, absorbed, dropped and shortened,
 // and how the silence after it went; or the refusal of the listing in words.
 mod parts;
+mod shown;
 mod told;
 
 use assembly::Workspace;
@@ -8,8 +9,7 @@ use closing::SourceBounded;
 use closing::SourceClosing;
 use panel::prepare;
 use panel::source;
-use session::ReportDisplay;
-use session::report_on;
+use report::report_on;
 use std::error::AnyError;
 use std::fs;
 use std::io::Read;
@@ -36,6 +36,5 @@ fn run(rt: &LibcRuntime) -> Result<(), AnyError> {
     let Ok(report) = report_on(tree, source(), &samples) else {
         return Err("the recording is too long".into());
     };
-    print!(rt, "{report}")?;
-    Ok(())
+    shown::print_report(rt, &report)
 }

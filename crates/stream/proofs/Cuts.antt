@@ -20,8 +20,7 @@ use Rattle.rig.proofs.Blocked.{run-more}
 use Rattle.rig.specs.declared.pages.Page.{Page}
 use Rattle.rig.specs.declared.pages.Round.{Round}
 use Rattle.rig.specs.declared.parts.Rig.{Rig}
-use Rattle.session.specs.Sessions.{turns, Fills}
-use Rattle.session.specs.Reports.{fed}
+use Rattle.session.specs.Sessions.{turns, Fills, fed}
 use Rattle.session.proofs.Sums.{fed-++, all-++, round-fed, round-feeds}
 use Rattle.stream.specs.Pieces.{waiting, left-over, rounds, turned, Full, listed, Pieced, Whatever-the-cuts}
 

@@ -17,7 +17,7 @@ use Rattle.rig.specs.Runs.Event.{feed, raise, answer, withdraw, clear, turn}
 use Rattle.rig.specs.declared.pages.Page.{Page}
 use Rattle.rig.specs.declared.pages.Round.{Round}
 use Rattle.rig.specs.declared.parts.Rig.{Rig}
-use Rattle.session.specs.Reports.{fed}
+use Rattle.session.specs.Sessions.{fed}
 use Rattle.stream.specs.declared.streams.state.Pushed.{Pushed}
 use Rattle.stream.specs.declared.streams.state.Pushed.the-variants.{Held, Heard}
 
