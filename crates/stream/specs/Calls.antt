@@ -28,7 +28,7 @@ module _ {P C : Type 0} (reads : P → Readings) (takes : P → ℤ → Taken �
   Filters s piece before None t after = (length before ≤ length piece) × (t ≡ s) × (after ≡ before)
   Filters s piece before (Some n) t after = (length piece < length before) × Filtered s piece before n t after
 
-  -- all but the last of the bytes used filled no page, and where no page was filled the piece was used up
+  -- the bytes used filled the page that is told, and no other; where none is told the piece was used up
   pub record Measures (s : Stream P C) (piece : List ℕ) (m : Measured) (t : Stream P C) : Type 0 where
     pub out : List ℕ
     pub through : Pieced reads takes clears answers (s .session .rig) (s .low) (take (m .used) piece) out (listed (m .page)) (t .session .rig) (t .low)
