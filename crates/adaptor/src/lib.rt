@@ -1,4 +1,6 @@
 //! Two ports behind one: in series and in parallel.
+#![tactic(auto)]
+
 pub mod adaptors;
 pub mod joints;
 pub mod ways;

@@ -1,4 +1,6 @@
 // Assembles the listings that stdin names, and says of each what its tree is, or by which rule it is refused and where.
+#![tactic(auto)]
+
 use assembly::{Workspace, assemble};
 use std::{fs, io};
 use tree::ListingTree;

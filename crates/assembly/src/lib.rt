@@ -1,4 +1,6 @@
 //! From the text of a listing to its tree.
+#![tactic(auto)]
+
 mod assembling;
 mod branches;
 mod faults;

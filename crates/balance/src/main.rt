@@ -1,4 +1,6 @@
 // Feeds samples from standard input through the listing `line.cir`, piece by piece, and writes a line for each page.
+#![tactic(auto)]
+
 use assembly::{Assembled, Workspace};
 use closing::Source;
 use lines::{Line, page_line};

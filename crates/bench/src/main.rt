@@ -1,5 +1,7 @@
 //! Takes of two listing trees, the door line and 32 equal capacitors in parallel, with the same falling waves. It prints the sums of what
 //! they answer; given the argument `time`, it runs ten million takes of each and prints how long one lasts.
+#![tactic(auto)]
+
 use adaptor::Way;
 use port::{Port, Resistor, Storage};
 use std::time::Instant;

@@ -1,4 +1,6 @@
 //! What closes a port: a source, a short, a diode, a stiff source.
+#![tactic(auto)]
+
 pub mod kinds;
 pub mod meaning;
 

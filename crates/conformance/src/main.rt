@@ -1,5 +1,7 @@
 // Runs recordings through the library's own calls, cut into pieces of several lengths, and compares what comes out with what must come out: samples as
 // `filter` writes them, and lines as `balance` does. Standard input names the runs; NAME.cir, NAME.raw, NAME.filter and NAME.balance belong to each.
+#![tactic(auto)]
+
 use assembly::{Assembled, Workspace};
 use closing::Source;
 use lines::{Line, page_line};

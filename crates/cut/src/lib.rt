@@ -1,4 +1,6 @@
 // Cuts a text into lines and a line into fields, each a span of the text.
+#![tactic(auto)]
+
 ghost use Rattle.std.specs.Prelude.{◌≡◌, ◌+◌, ◌-◌, ◌<◌, ◌≤◌, [], length, MatchOption};
 ghost use Rattle.fixed.specs.Held.{held};
 ghost use Rattle.cut.specs.Cuts.{blank, bytes, stop as stopOf, LineTo, AllBlank, FieldAt, FirstFields};

@@ -1,4 +1,6 @@
 //! The tree of the door listing, proved of the definitions.
+#![tactic(auto)]
+
 ghost use Rattle.std.specs.Prelude.{◌≡◌, true};
 ghost use Rattle.door.specs.Door.{DoorTree};
 

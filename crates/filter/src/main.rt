@@ -1,4 +1,6 @@
 // Filters samples from standard input through the listing `line.cir`, piece by piece, and writes what is heard.
+#![tactic(auto)]
+
 use assembly::Workspace;
 use panel::{fault_line, listen, prepare, source};
 use std::fs;

@@ -1,4 +1,6 @@
 // Room for at most N items, with no allocation.
+#![tactic(auto)]
+
 ghost use Rattle.std.specs.Prelude.{◌≡◌, ◌+◌, ◌<◌, [], ◌∷◌, ◌++◌, length, take, Decides};
 ghost use Rattle.fixed.specs.Held.{held};
 

@@ -1,4 +1,6 @@
 //! Lines of text for programs: a page's numbers, or a refusal, in decimal with one blank between and a line feed behind.
+#![tactic(auto)]
+
 mod pages;
 mod text;
 

@@ -1,4 +1,6 @@
 // Prints what a listing says: its port and its elements with their nodes and scaled values, or why it is refused.
+#![tactic(auto)]
+
 use cut::Span;
 use reader::{Ends, Listing, NodeNumber, read};
 use std::alloc::{AllocError, Global};

@@ -1,4 +1,6 @@
 // Reads the listings that stdin names, and says of each that it is accepted, or by which rule it is refused and where.
+#![tactic(auto)]
+
 use reader::read;
 use std::{fs, io};
 

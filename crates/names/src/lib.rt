@@ -1,4 +1,6 @@
 // Records that have a name in the text, and the search of one by its name.
+#![tactic(auto)]
+
 ghost use Rattle.std.specs.Prelude.{◌≡◌, ◌-◌, ◌<◌, length, MatchOption};
 ghost use Rattle.cut.specs.declared.Span.{Span as SpanIs};
 ghost use Rattle.names.specs.Alike.{NoneCalled, FirstCalled};

@@ -1,4 +1,6 @@
 //! Branches between nodes, and which two of them are joined next.
+#![tactic(auto)]
+
 mod chains;
 mod finds;
 mod wires;

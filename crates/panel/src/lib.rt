@@ -1,4 +1,6 @@
 //! A panel's filter: a listing tree behind a closing, with all that the rig promises, and the tail that dies.
+#![tactic(auto)]
+
 ghost use Rattle.std.specs.Prelude.{◌≡◌, ℕ, ℤ, None, codes, MatchResult};
 ghost use Rattle.port.specs.Meaning.{Readings};
 ghost use Rattle.closing.specs.Meaning.{Bounded};

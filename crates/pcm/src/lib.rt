@@ -1,4 +1,6 @@
 //! Samples as bytes: little-endian signed 16-bit numbers, four steps of the filter to one step of a sample.
+#![tactic(auto)]
+
 ghost use Rattle.std.specs.Prelude.{◌≡◌};
 ghost use Rattle.pcm.specs.Samples.{bits16, sample_of, sample_wave, sample_bytes};
 

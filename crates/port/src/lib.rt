@@ -1,4 +1,6 @@
 //! What a port is, and the elements that are ports: capacitor, coil and resistor.
+#![tactic(auto)]
+
 pub mod elements;
 pub mod meaning;
 pub mod parts;

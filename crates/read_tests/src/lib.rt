@@ -1,4 +1,6 @@
 // Tests of what the reader keeps of a text: places and lengths, node numbers, kinds and scaled values.
+#![tactic(auto)]
+
 #[cfg(test)]
 mod tests {
     use reader::{Listing, read};

@@ -1,4 +1,5 @@
 // Reads a listing: a title, element lines, a port line and .end.
+#![tactic(auto)]
 
 mod faults;
 mod line_ends;

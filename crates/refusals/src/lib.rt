@@ -1,4 +1,6 @@
 // The refusals of reading, each a broken rule and its place, and which of two is reported.
+#![tactic(auto)]
+
 ghost use Rattle.std.specs.Prelude.{◌≡◌};
 ghost use Rattle.refusals.specs.Refusals.{told};
 ghost use Rattle.refusals.specs.Order.{first_of};

@@ -1,4 +1,6 @@
 //! Every refusal below the rig, at its limits and in its order.
+#![tactic(auto)]
+
 mod wide;
 
 #[cfg(test)]

@@ -1,4 +1,6 @@
 //! What becomes of a recording: a report balances what was fed against what was stored, absorbed, dropped and shortened.
+#![tactic(auto)]
+
 pub mod accounts;
 pub mod reports;
 

@@ -1,4 +1,6 @@
 //! A rig: a port and the closing before it, fed sample by sample, with a page of sums and one wave that may be open.
+#![tactic(auto)]
+
 pub mod blocks;
 pub mod calls;
 pub mod handed;

@@ -1,5 +1,7 @@
 //! A rig tried on examples: open waves of its own and of others, refusals in every order, pages, blocks. The expected values come from the equations,
 //! worked by hand, and from a separate model in exact fractions.
+#![tactic(auto)]
+
 ghost use Rattle.std.specs.Prelude.{◌≡◌, ◌≤◌, true, false, pos, ◌≢◌};
 ghost use Rattle.wave.specs.Numbers.{largest_wave};
 ghost use Rattle.rig.specs.Steps.{Fits, Kept};

@@ -1,5 +1,7 @@
 // The balance sheet of a recording: the listing's elements with their weights, its tree and ratio, what was stored, absorbed, dropped and shortened,
 // and how the silence after it went; or the refusal of the listing in words.
+#![tactic(auto)]
+
 mod parts;
 mod shown;
 mod told;

@@ -1,4 +1,6 @@
 //! The tree of a listing's elements: a port whose shape comes from the listing, changed in place.
+#![tactic(auto)]
+
 pub mod elements;
 pub mod grown;
 pub mod listed;

@@ -1,4 +1,6 @@
 //! Ports and closings, tried on examples. The expected values come from a separate model of the equations in exact fractions.
+#![tactic(auto)]
+
 #[cfg(test)]
 mod tests {
     use adaptor::{Adaptor, Apart};

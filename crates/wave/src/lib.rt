@@ -1,4 +1,6 @@
 //! Waves, weights, ratios, and the shortening of exact values.
+#![tactic(auto)]
+
 mod divisors;
 pub mod ratios;
 pub mod shortening;

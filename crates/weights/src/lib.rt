@@ -1,4 +1,6 @@
 //! The weight of an element, from its kind and value.
+#![tactic(auto)]
+
 mod scales;
 mod sizes;
 mod weighs;

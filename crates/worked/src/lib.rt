@@ -1,4 +1,6 @@
 //! Worked examples, proved of the definitions.
+#![tactic(auto)]
+
 ghost use Rattle.std.specs.Prelude.{◌≡◌, pos};
 ghost use Rattle.worked.specs.Line.{at_rest, next, feed};
 ghost use Rattle.worked.specs.Table.{Table, Told};
