@@ -1,5 +1,4 @@
-ghost use Rattle.std.specs.Prelude.{◌≡◌, IfOk, vec_len};
-ghost use Rattle.assembly.specs.Limits.{most_boxes};
+ghost use Rattle.std.specs.Prelude.{◌≡◌};
 ghost use Rattle.assembly.specs.Assemblies.{row};
 
 use crate::faults::AssemblyFault;
@@ -50,10 +49,8 @@ impl AssemblyFault {
 }
 
 impl Workspace {
-    /// The one call of assembling that takes memory: as many boxes as the joins of the longest listing use, and no branch yet.
-    pub fn new(heap: Global) -> Result<Workspace, AllocError>
-        ensures { IfOk result (λ w. (vec_len w.room.boxes ≡ most_boxes) × (vec_len w.branches ≡ 0)) }
-    {
+    /// The one call of assembling that takes memory.
+    pub fn new(heap: Global) -> Result<Workspace, AllocError> {
         let room = Room::new(heap, MOST_BOXES)?;
         let branches = Vec::with_capacity(heap, MOST_BRANCHES)?;
         Ok(Workspace { room, branches })

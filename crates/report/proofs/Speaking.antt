@@ -1,6 +1,6 @@
 -- Samples and silence, round by round.
 use Rattle.std.proofs.Common.{◌≡◌, ℕ, suc, ◌+◌, ◌*◌, ◌/◌, ◌%◌, ◌<◌, ◌≤◌, min, Bool, true, false, cond, eqb, ◌⊎◌, List, [], ◌∷◌, ◌++◌, length, get_or, take, ℤ, pos, ◌+ℤ◌, ◌-ℤ◌, Ok, Option, sym, refl, ap, ◌∙◌, subst, ap₂, arith, length-take, take_all}
-use lib.IntN.{+ℤ_idl, +ℤ_idr, +ℤ_assoc}
+use Rattle.std.proofs.lemmas.Int.{ints}
 use Rattle.pcm.specs.Samples.{sample_wave}
 use Rattle.wave.specs.declared.ratios.lowest.Ratio.{Ratio}
 use Rattle.port.specs.Meaning.{Readings}
@@ -19,7 +19,7 @@ use Rattle.report.specs.Reports.{longest_silence, quiet, idle_after, Adds, Longe
 use Rattle.report.specs.declared.accounts.account.Account.{Account}
 use Rattle.report.specs.declared.reports.Silence.{Silence}
 use Rattle.session.proofs.Sums.{sum-++, swing-++, fed-++, all-++, Comes, round_comes, round_busy, round_fed, round_feeds}
-use Rattle.report.proofs.Idle.{idle-++, round_idle, awaits-++, round_awaits}
+use Rattle.report.proofs.Idle.{idle-++, round_idle}
 
 waves_pairs : (s : List ℕ) → waves_of (take (2 * (length s / 2)) s) ≡ waves_of s
 waves_pairs [] = refl
@@ -27,6 +27,9 @@ waves_pairs (x ∷ []) = refl
 waves_pairs (x ∷ (y ∷ s)) =
     let e : 2 * (suc (suc (length s)) / 2) ≡ suc (suc (2 * (length s / 2))) = omega arith in
     ap (λ n. waves_of (take n (x ∷ (y ∷ s)))) e ∙ ap (λ (l : List ℤ). sample_wave x y ∷ l) (waves_pairs s)
+
+added : (v a b w t : ℤ) → w ≡ v +ℤ a → t ≡ w +ℤ b → t ≡ v +ℤ (a +ℤ b)
+added v a b w t h k = omega (arith, ints)
 
 -- sums over xs and then ys, where ys comes to these
 pub adds_more : (p q r : Account) (xs ys : List Event) (n A D c : ℕ) (w : ℤ) → Adds p xs q → Comes ys n A D c w → r.entries ≡ q.entries + n → r.absorbed ≡ q.absorbed + A
@@ -36,11 +39,14 @@ adds_more p q r xs ys n A D c w a y en eA eD ec ew = record {
   absorbed = omega (arith, a.absorbed, y.absorbs, eA, sum-++ (of_round (λ x. x.absorbed)) xs ys);
   dropped = omega (arith, a.dropped, y.drops, eD, sum-++ (of_clear (λ z. z)) xs ys);
   shortened = omega (arith, a.shortened, y.shortens, ec, sum-++ (of_round (λ x. x.shortened)) xs ys);
-  swing = ew ∙ ap₂ (λ u v. u +ℤ v) a.swing (sym y.swings) ∙ +ℤ_assoc p.swing (swing xs) (swing ys) ∙ ap (λ z. p.swing +ℤ z) (sym (swing-++ xs ys));
+  swing = added p.swing (swing xs) (swing ys) q.swing r.swing a.swing (ew ∙ ap (λ z. q.swing +ℤ z) (sym y.swings)) ∙ ap (λ z. p.swing +ℤ z) (sym (swing-++ xs ys));
 }
 
+nothing : (v : ℤ) → v ≡ v +ℤ pos 0
+nothing v = omega (arith, ints)
+
 pub adds_none : (p : Account) → Adds p [] p
-adds_none p = record { entries = omega arith; absorbed = omega arith; dropped = omega arith; shortened = omega arith; swing = sym (+ℤ_idr p.swing) }
+adds_none p = record { entries = omega arith; absorbed = omega arith; dropped = omega arith; shortened = omega arith; swing = nothing p.swing }
 
 pub adds_round : (p q r : Account) (xs : List Event) (e : ℤ) (x : Round) (g : Option Page) → Adds p xs q → CountsRound q x r → Adds p (xs ++ (feed e (Ok x) ∷ turns g)) r
 adds_round p q r xs e x g a k =
@@ -87,7 +93,7 @@ module _ {P C : Type 0} (reads : P → Readings) (takes : P → ℤ → Taken �
         absorbed = omega (arith, s.adds.absorbed, z.absorbed);
         dropped = omega (arith, s.adds.dropped, z.dropped);
         shortened = omega (arith, s.adds.shortened, z.shortened);
-        swing = s.adds.swing ∙ ap (λ v. v +ℤ swing s.calls) z.swing ∙ +ℤ_idl (swing s.calls);
+        swing = s.adds.swing ∙ ap (λ v. v +ℤ swing s.calls) z.swing ∙ omega (arith, ints);
       }
 
   -- rounds of silence
@@ -101,7 +107,7 @@ module _ {P C : Type 0} (reads : P → Readings) (takes : P → ℤ → Taken �
   pub hushed_start : (b : Rig P C) (p : Account) (s : Silence) → s.rounds ≡ 0 → s.busy ≡ 0 → s.idle ≡ 0 → Hushed b p s p b
   hushed_start b p s n u v = record {
     calls = [];
-    hush = record { run = done; silent = tt; rounds = n; busy = u; idle = v; until = tt; few = omega (arith, n) };
+    hush = record { run = done; silent = tt; rounds = n; busy = u; idle = v };
     adds = adds_none p;
     busy_most = omega (arith, n, u);
     idle_most = omega (arith, n, v);
@@ -111,9 +117,9 @@ module _ {P C : Type 0} (reads : P → Readings) (takes : P → ℤ → Taken �
   cond_most true m n h = omega arith
   cond_most false m n h = omega arith
 
-  pub hushed_more : (b : Rig P C) (p : Account) (s : Silence) (x : Account) (c : Rig P C) (r : Round) (g : Option Page) (d : Rig P C) (t : Silence) (y : Account) → s.idle < quiet → s.rounds < longest_silence → Hushed b p s x c
+  pub hushed_more : (b : Rig P C) (p : Account) (s : Silence) (x : Account) (c : Rig P C) (r : Round) (g : Option Page) (d : Rig P C) (t : Silence) (y : Account) → Hushed b p s x c
       → Run reads takes clears answers c (feed (pos 0) (Ok r) ∷ turns g) d → CountsRound x r y → Longer s r t → Hushed b p t y d
-  hushed_more b p s x c r g d t y i m H q k L =
+  hushed_more b p s x c r g d t y H q k L =
       let l = feed (pos 0) (Ok r) ∷ turns g in
       let ys = H.calls in
       let S = H.hush in
@@ -125,14 +131,12 @@ module _ {P C : Type 0} (reads : P → Readings) (takes : P → ℤ → Taken �
           rounds = omega (arith, L.rounds, S.rounds, sum-++ (λ x. of_round (λ z. 1) x + of_clear (λ z. 1) x) ys l, (round_comes (pos 0) r g).entered);
           busy = omega (arith, L.busy, S.busy, sum-++ (of_round (λ x. min 1 (x.shortened + x.absorbed))) ys l, round_busy (pos 0) r g);
           idle = L.idle ∙ ap (λ n. cond (eqb (r.shortened + r.absorbed) 0) (n + 1) 0) S.idle ∙ sym (idle-++ ys l 0 ∙ round_idle (idle_after 0 ys) (pos 0) r g);
-          until = awaits-++ ys l 0 S.until (round_awaits (idle_after 0 ys) (pos 0) r g (omega (arith, i, S.idle)));
-          few = omega (arith, m, L.rounds);
         };
         adds = adds_round p x y ys (pos 0) r g H.adds k;
         busy_most = omega (arith, L.busy, L.rounds, H.busy_most);
         idle_most = subst (λ n. n ≤ t.rounds) (sym L.idle) (subst (λ n. cond (eqb (r.shortened + r.absorbed) 0) (s.idle + 1) 0 ≤ n) (sym L.rounds) (cond_most _ s.idle s.rounds H.idle_most));
       }
 
-  pub hushed_end : (b : Rig P C) (p : Account) (s : Silence) (x : Account) (c : Rig P C) → (s.rounds ≡ longest_silence) ⊎ (quiet ≤ s.idle) → Hushed b p s x c
+  pub hushed_end : (b : Rig P C) (p : Account) (s : Silence) (x : Account) (c : Rig P C) → s.rounds ≤ longest_silence → (s.rounds ≡ longest_silence) ⊎ (quiet ≤ s.idle) → Hushed b p s x c
       → Rested reads takes clears answers b p s x c
-  hushed_end b p s x c o H = record { calls = H.calls; hush = H.hush; adds = H.adds; over = o }
+  hushed_end b p s x c few o H = record { calls = H.calls; hush = H.hush; adds = H.adds; few = omega (arith, few, H.hush.rounds); over = o }

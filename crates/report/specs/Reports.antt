@@ -4,7 +4,6 @@ use Rattle.wave.specs.declared.ratios.lowest.Ratio.{Ratio}
 use Rattle.port.specs.Meaning.{Readings}
 use Rattle.port.specs.declared.takings.Taken.{Taken}
 use Rattle.rig.specs.Blocks.{waves_of}
-use Rattle.rig.specs.Pages.{Fresh}
 use Rattle.rig.specs.Runs.{Event, Run, All, Feeds, entries, absorbed, dropped, shortened, swing, busy}
 use Rattle.rig.specs.Runs.Event.{feed, raise, answer, withdraw, clear, turn}
 use Rattle.rig.specs.declared.pages.Page.{Page}
@@ -25,35 +24,17 @@ longest_silence = 1000000
 abbrev pub quiet : ℕ
 quiet = 256
 
--- how many rounds passed since the last that shortened or absorbed something, where n had passed before a call
-abbrev pub idle_next : ℕ → Event → ℕ
-idle_next n (feed e (Ok x)) = cond (x.shortened + x.absorbed == 0) (n + 1) 0
-idle_next n (feed e (Err y)) = n
-idle_next n (raise o) = n
-idle_next n (answer w f (Ok x)) = cond (x.shortened + x.absorbed == 0) (n + 1) 0
-idle_next n (answer w f (Err y)) = n
-idle_next n (withdraw w o) = n
-idle_next n (clear o) = n
-idle_next n (turn o) = n
-
--- and before some calls
+-- how many rounds passed since the last that shortened or absorbed something, where n had passed before
 abbrev pub idle_after : ℕ → List Event → ℕ
 idle_after n [] = n
-idle_after n (x ∷ xs) = idle_after (idle_next n x) xs
-
--- after n idle rounds a round is fed only if the filter is not quiet yet
-abbrev pub Awaits : ℕ → Event → Type 0
-Awaits n (feed e (Ok x)) = n < quiet
-Awaits n (feed e (Err y)) = Unit {0}
-Awaits n (raise o) = Unit {0}
-Awaits n (answer w f o) = Unit {0}
-Awaits n (withdraw w o) = Unit {0}
-Awaits n (clear o) = Unit {0}
-Awaits n (turn o) = Unit {0}
-
-abbrev pub AwaitsQuiet : ℕ → List Event → Type 0
-AwaitsQuiet n [] = Unit {0}
-AwaitsQuiet n (x ∷ xs) = Awaits n x × AwaitsQuiet (idle_next n x) xs
+idle_after n (feed e (Ok x) ∷ xs) = idle_after (cond (x.shortened + x.absorbed == 0) (n + 1) 0) xs
+idle_after n (feed e (Err y) ∷ xs) = idle_after n xs
+idle_after n (raise o ∷ xs) = idle_after n xs
+idle_after n (answer w f (Ok x) ∷ xs) = idle_after (cond (x.shortened + x.absorbed == 0) (n + 1) 0) xs
+idle_after n (answer w f (Err y) ∷ xs) = idle_after n xs
+idle_after n (withdraw w o ∷ xs) = idle_after n xs
+idle_after n (clear o ∷ xs) = idle_after n xs
+idle_after n (turn o ∷ xs) = idle_after n xs
 
 -- b is a and the calls ys
 pub record Adds (a : Account) (ys : List Event) (b : Account) : Type 0 where
@@ -93,15 +74,13 @@ module _ {P C : Type 0} (reads : P → Readings) (takes : P → ℤ → Taken �
     pub feeds : All (Feeds (λ e. Unit {0})) xs
     pub all : fed xs ≡ waves_of samples
 
-  -- feeds of 0, and none once the filter is quiet or the longest silence is over
+  -- feeds of 0, until the filter is quiet or the longest silence is over
   pub record Hush (b : Rig P C) (ys : List Event) (s : Silence) (c : Rig P C) : Type 0 where
     pub run : Run reads takes clears answers b ys c
     pub silent : All (Feeds (λ e. e ≡ pos 0)) ys
     pub rounds : s.rounds ≡ entries ys
     pub busy : s.busy ≡ busy ys
     pub idle : s.idle ≡ idle_after 0 ys
-    pub until : AwaitsQuiet 0 ys
-    pub few : s.rounds ≤ longest_silence
 
   pub record Spoken (a : Rig P C) (samples : List ℕ) (x : Account) (b : Rig P C) : Type 0 where
     pub calls : List Event
@@ -117,6 +96,7 @@ module _ {P C : Type 0} (reads : P → Readings) (takes : P → ℤ → Taken �
     pub calls : List Event
     pub hush : Hush b calls s c
     pub adds : Adds x calls y
+    pub few : entries calls ≤ longest_silence
     pub over : (s.rounds ≡ longest_silence) ⊎ (quiet ≤ s.idle)
 
   -- a rig is made of the port and the closing, fed the samples, then silence, and cleared
@@ -124,7 +104,6 @@ module _ {P C : Type 0} (reads : P → Readings) (takes : P → ℤ → Taken �
     pub made : Rig P C
     pub port : made.port ≡ p
     pub closing : made.closing ≡ k
-    pub fresh : Fresh (reads p).stored made.tally
     pub speech : List Event
     pub spoken : Rig P C
     pub speaks : Speech made samples speech spoken

@@ -51,7 +51,8 @@ fn way_of(way: Way) -> &'static str {
 }
 
 pub fn print_tree(rt: &HostRuntime, text: &[u8], tree: &ListingTree) -> anyhow::Result<()> {
-    let steps = tree.shape(rt.alloc())?;
+    let mut steps = Vec::new(rt.alloc());
+    tree.shape(&mut steps)?;
     print!(rt; "tree     ")?;
     for step in steps.iter() {
         match *step {

@@ -1,12 +1,11 @@
 -- A piece, byte by byte.
-use Rattle.std.proofs.Common.{◌≡◌, ℕ, ◌+◌, ◌<◌, ◌≤◌, true, false, List, [], ◌∷◌, ◌++◌, length, get_or, take, ℤ, is_some, Some, None, Option, sym, refl, ◌∙◌, subst, arith, take_all}
+use Rattle.std.proofs.Common.{◌≡◌, ℕ, suc, ◌+◌, ◌<◌, ◌≤◌, Bool, true, false, List, [], ◌∷◌, ◌++◌, length, get_or, take, drop, set, ℤ, is_some, Some, None, Option, sym, refl, ap, ◌∙◌, subst, ap₂, append_assoc, arith, length-append}
 use Rattle.std.proofs.lemmas.List.{take_more}
 use Rattle.wave.specs.declared.ratios.lowest.Ratio.{Ratio}
 use Rattle.port.specs.Meaning.{Readings}
 use Rattle.port.specs.declared.takings.Taken.{Taken}
 use Rattle.rig.specs.declared.pages.Page.{Page}
 use Rattle.rig.specs.declared.parts.Rig.{Rig}
-use Rattle.stream.specs.Calls.{Measures}
 use Rattle.stream.specs.Pieces.{listed, waiting, Halves, heard_of, pages_of, Pieced}
 use Rattle.stream.specs.declared.streams.state.Pushed.{Pushed}
 use Rattle.stream.specs.declared.streams.state.Pushed.TheVariants.{Held, Heard}
@@ -35,32 +34,15 @@ module _ {P C : Type 0} (reads : P → Readings) (takes : P → ℤ → Taken �
       subst (λ (t : List ℕ). Pieced reads takes clears answers a l t (o ++ q) (p ++ r) c n) (sym (take_more piece i 0 h))
       (whatever_the_cuts reads takes clears answers a b c l m n (take i piece) (get_or piece i 0 ∷ []) o q p r A B)
 
-  -- a byte that fills no page
+  -- a byte that fills no page yet, or one
+  pub measured_more : (a b c : Rig P C) (l m n : Option ℕ) (piece o q : List ℕ) (i : ℕ) (r : List Page) (p : Option Page) → i < length piece → listed p ≡ r
+      → Pieced reads takes clears answers a l (take i piece) o [] b m → Pieced reads takes clears answers b m (get_or piece i 0 ∷ []) q r c n
+      → Pieced reads takes clears answers a l (take (i + 1) piece) (o ++ q) (listed p) c n
+  measured_more a b c l m n piece o q i r p h e A B =
+      subst (λ (t : List Page). Pieced reads takes clears answers a l (take (i + 1) piece) (o ++ q) t c n) (sym e) (byte_more a b c l m n piece o q i [] r h A B)
+
   pub measured_on : (a b c : Rig P C) (l m n : Option ℕ) (piece o q : List ℕ) (i : ℕ) (r : List Page) (p : Option Page) → i < length piece → listed p ≡ r → is_some p ≡ false
       → Pieced reads takes clears answers a l (take i piece) o [] b m → Pieced reads takes clears answers b m (get_or piece i 0 ∷ []) q r c n
       → Pieced reads takes clears answers a l (take (i + 1) piece) (o ++ q) [] c n
   measured_on a b c l m n piece o q i r p h e z A B =
-      subst (λ (t : List Page). Pieced reads takes clears answers a l (take (i + 1) piece) (o ++ q) t c n) (sym e ∙ none_listed p z) (byte_more a b c l m n piece o q i [] r h A B)
-
-  -- the byte that fills one
-  pub measured_up_to : (s t : Stream P C) (b : Rig P C) (m : Option ℕ) (piece o q : List ℕ) (i : ℕ) (r : List Page) (p : Option Page) → i < length piece → listed p ≡ r → is_some p ≡ true
-      → Pieced reads takes clears answers s.session.rig s.low (take i piece) o [] b m → Pieced reads takes clears answers b m (get_or piece i 0 ∷ []) q r t.session.rig t.low
-      → Measures reads takes clears answers s piece (i + 1) p t
-  measured_up_to s t b m piece o q i r None h e z A B = absurd (let z : ◌≡◌ {A = ℕ} 0 1 = cc in omega arith)
-  measured_up_to s t b m piece o q i r (Some p) h e z A B = record {
-    i = i;
-    within = h;
-    last = refl;
-    rig = b;
-    low = m;
-    out = o;
-    before = A;
-    more = q;
-    fills = subst (λ (x : List Page). Pieced reads takes clears answers b m (get_or piece i 0 ∷ []) q x t.session.rig t.low) (sym e) B;
-  }
-
-  -- the whole piece, and no page
-  pub measured_whole : (s t : Stream P C) (piece o : List ℕ) (i : ℕ) → length piece ≤ i
-      → Pieced reads takes clears answers s.session.rig s.low (take i piece) o [] t.session.rig t.low
-      → Measures reads takes clears answers s piece (length piece) None t
-  measured_whole s t piece o i h A = (refl, (o, subst (λ (x : List ℕ). Pieced reads takes clears answers s.session.rig s.low x o [] t.session.rig t.low) (take_all i piece h) A))
+      subst (λ (t : List Page). Pieced reads takes clears answers a l (take (i + 1) piece) (o ++ q) t c n) (none_listed p z) (measured_more a b c l m n piece o q i r p h e A B)

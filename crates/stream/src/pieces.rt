@@ -59,7 +59,7 @@ impl<P: Port, C: Closing> Stream<P, C> {
 
     /// Feeds a piece up to the byte that fills the page, or to its end.
     pub fn measure(&mut self, piece: &[u8]) -> Measured
-        ensures { Measures P.Port.reads P.Port.takes P.Port.clears C.Closing.answers self.old piece.now result.used result.page self.new }
+        ensures { Measures P.Port.reads P.Port.takes P.Port.clears C.Closing.answers self.old piece.now result self.new }
     {
         for i in 0..piece.len() {
             let page = filled(self.push(piece[i]));

@@ -1,4 +1,4 @@
-ghost use Rattle.std.specs.Prelude.{◌≡◌, [], ◌∷◌, ◌++◌, IfOk, OnOk};
+ghost use Rattle.std.specs.Prelude.{◌≡◌, [], ◌∷◌, ◌++◌, OnOk};
 ghost use Rattle.tree.specs.Trees.{model};
 ghost use Rattle.tree.specs.Shapes.{steps};
 
@@ -6,7 +6,7 @@ use crate::elements::Element;
 use crate::listed::ListingTree;
 use crate::trees::Tree;
 use adaptor::Way;
-use std::alloc::{AllocError, Global};
+use std::alloc::AllocError;
 
 /// A step of reading a tree from left to right: each join stands in brackets, its way between its two parts.
 #[derive(Clone, Copy)]
@@ -44,12 +44,10 @@ impl Tree {
 }
 
 impl ListingTree {
-    /// The tree's steps: its elements as they are now, and how they are joined.
-    pub fn shape(&self, heap: Global) -> Result<Vec<Step>, AllocError>
-        ensures { IfOk result (λ v. v.items ≡ steps (model self.now.tree)) }
+    /// Adds the tree's steps to `out`: its elements as they are now, and how they are joined.
+    pub fn shape(&self, out: &mut Vec<Step>) -> Result<(), AllocError>
+        ensures { OnOk result (out.new.items ≡ out.old.items ++ steps (model self.now.tree)) }
     {
-        let mut out = Vec::new(heap);
-        self.tree.steps(&mut out)?;
-        Ok(out)
+        self.tree.steps(out)
     }
 }

@@ -6,5 +6,5 @@ mod sizes;
 mod weighs;
 
 pub use scales::{LARGEST_RATE, LARGEST_UNIT, Scale};
-pub use sizes::Size;
+pub use sizes::{LARGEST_SIZE, Size};
 pub use weighs::{Examples, weight_of, worked_examples};

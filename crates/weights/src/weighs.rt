@@ -1,11 +1,10 @@
 ghost use Rattle.std.specs.Prelude.{◌≡◌, ◌*◌, ◌<◌, ◌≤◌, MatchOption};
-ghost use Rattle.weights.specs.Limits.{Scaled, Sized, largest_rate, largest_unit};
-ghost use Rattle.values.specs.Values.{largest_value};
+ghost use Rattle.weights.specs.Limits.{Scaled, Sized, largest_rate, largest_unit, largest_size};
 ghost use Rattle.weights.specs.Weights.{dividend as dividend-of, divisor as divisor-of, weight, Table};
 
 use crate::scales::{LARGEST_RATE, LARGEST_UNIT, Scale};
-use crate::sizes::Size;
-use values::{Kind, LARGEST_VALUE};
+use crate::sizes::{LARGEST_SIZE, Size};
+use values::Kind;
 
 impl Scale {
     /// None where the rate or the unit is 0 or too large.
@@ -24,7 +23,7 @@ impl Size {
     pub fn new(value: u32) -> Option<Size>
         ensures { MatchOption result (Sized value → ⊥) (λ s. s.value ≡ value) }
     {
-        if value == 0 || value as u64 > LARGEST_VALUE {
+        if value == 0 || value > LARGEST_SIZE {
             return None;
         }
         Some(Size { value })
@@ -33,17 +32,17 @@ impl Size {
 
 // 2 v r
 fn doubled(value: u32, rate: u32) -> u64
-    requires { (0 < value) × (value ≤ largest_value) × (0 < rate) × (rate ≤ largest_rate) }
+    requires { (0 < value) × (value ≤ largest_size) × (0 < rate) × (rate ≤ largest_rate) }
     ensures value { result ≡ 2 * value * rate }
     ensures above { 0 < result }
-    ensures bound { result ≤ 2 * largest_value * largest_rate }
+    ensures bound { result ≤ 2 * largest_size * largest_rate }
 {
     2 * value as u64 * rate as u64
 }
 
 // x u
 fn united(x: u64, unit: u32) -> u64
-    requires { (0 < x) × (x ≤ 2 * largest_value * largest_rate) × (0 < unit) × (unit ≤ largest_unit) }
+    requires { (0 < x) × (x ≤ 2 * largest_size * largest_rate) × (0 < unit) × (unit ≤ largest_unit) }
     ensures value { result ≡ x * unit }
     ensures above { 0 < result }
 {

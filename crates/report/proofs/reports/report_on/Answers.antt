@@ -36,7 +36,6 @@ returns g c =
           made = c.new-session.result.rig;
           port = made.0;
           closing = made.1;
-          fresh = made.3;
           speech = E.calls;
           spoken = spoken;
           speaks = E.speech;

@@ -1,9 +1,8 @@
-use Rattle.std.proofs.Common.{◌≡◌, ◌<◌}
-use Rattle.report.specs.Reports.{quiet}
+use Rattle.std.proofs.Common.{◌≡◌}
 use Rattle.report.proofs.Speaking.{Hushed}
 use Rattle.report.proofs.reports.rest.Given as goal
 
 abbrev pub invariant-loop : goal.invariant-loop
 invariant-loop g l =
     Hushed g.P.Port.reads g.P.Port.takes g.P.Port.clears g.C.Closing.answers l.initial.session.rig l.initial.account l.silence l.account l.session.rig
-    × (l.silence.rounds ≡ l.counter) × (l.silence.idle < quiet)
+    × (l.silence.rounds ≡ l.counter)
