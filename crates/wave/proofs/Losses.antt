@@ -1,5 +1,5 @@
 -- A shortened wave is never larger than the exact one, and as large exactly if nothing was cut.
-use Rattle.std.proofs.Common.{◌≡◌, ℕ, suc, ◌+◌, ◌-◌, ◌*◌, ◌/◌, ◌<◌, ◌≤◌, min, ℤ, pos, negsuc, nat_abs, refl, ap, le_trans, le_refl, mul_assoc, mul_comm, mul-le-mul, mul-lt-mul_of_pos_right, div-mul-le_self, mul_left_comm, arith}
+use Rattle.std.proofs.Common.{◌≡◌, ℕ, suc, ◌+◌, ◌*◌, ◌/◌, ◌<◌, ◌≤◌, min, ℤ, pos, negsuc, nat_abs, refl, ap, le_trans, le_refl, mul_assoc, mul_comm, mul-le-mul, mul-lt-mul_of_pos_right, div-mul-le_self, mul_left_comm, arith}
 use Rattle.lemmas.proofs.Integers.{nat_abs_neg}
 use Rattle.wave.specs.Numbers.{largest_wave, largest_weight, most_energy, sq, held, short_n, short, cut, lost}
 

@@ -8,7 +8,7 @@ pub loop-b-preserved : goal.loop-b-preserved
 loop-b-preserved c =
     let ds = c.args.digits.now in
     let i = c.loop-b.b-index in
-    let r = digit_range (get_or ds i 0) (c.requires.1 i (omega arith)) in
+    let r = digit_range (get_or ds i 0) (c.requires.by_index i (omega arith)) in
     let e = fold_more (λ n b. n * 10 + (b - 48)) 0 ds i 0 (omega arith) in
     let f : c.from.result ≡ get_or ds i 0 - 48 = c.from.ensures in
     (ap (λ n. n * 10 + c.from.result) c.loop-b.invariant.0 ∙ ap (λ n. decimal (take i ds) * 10 + n) f ∙ sym e, ten_more c.loop-b.sum i c.from.result c.loop-b.invariant.1 (omega (arith, f, r.0, r.1)))

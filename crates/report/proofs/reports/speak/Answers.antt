@@ -11,7 +11,7 @@ loop-i-init g c = said_start _ _ _ _ _ _ _
 
 pub loop-i-preserved : goal.loop-i-preserved
 loop-i-preserved g c =
-    let fits : SFits w32 c.wave-of.result = record { sfits = c.wave-of.type-inv } in
+    let fits : SFits w32 c.wave-of.result = record { sfits = c.wave-of.type_inv } in
     let told = simp to_z-of_z at c.in-Ok.ensures.0 in
     let x = c.in-Ok.entry in
     let run = subst (λ (e : ℤ). Run g.P.Port.reads g.P.Port.takes g.P.Port.clears g.C.Closing.answers c.loop-i.session.rig (feed e (Ok x.round) ∷ turns x.page) c.feed.new.self.rig) c.wave-of.ensures told in

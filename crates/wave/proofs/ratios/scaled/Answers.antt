@@ -1,12 +1,12 @@
 use borrow.Author.Differences.{ints}
-use Rattle.std.proofs.Common.{◌*◌, ◌^◌, ◌<◌, pos, ◌*ℤ◌, arith, w32, w64, SFits}
+use Rattle.std.proofs.Common.{◌^◌, ◌<◌, pos, ◌*ℤ◌, arith, w32, w64, SFits}
 use Rattle.std.proofs.lemmas.Int.{to_z-of_z, to_z_pos}
 use Rattle.lemmas.proofs.Integers.{product_most, sfits_of}
 use Rattle.wave.specs.Terms.{largest_number}
 use Rattle.wave.proofs.ratios.scaled.Goals as goal
 
-pub overflow-mul-result : goal.overflow-mul-result
-overflow-mul-result c =
+pub overflow_mul-result : goal.overflow_mul-result
+overflow_mul-result c =
     let f : SFits w32 c.args.x = c.ranges.x in
     let h : SFits w64 c.args.x = omega (arith, ints) in
     let l : c.args.p < 2 ^ 63 = omega arith in

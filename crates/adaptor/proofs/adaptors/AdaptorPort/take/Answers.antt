@@ -5,8 +5,8 @@ use Rattle.adaptor.proofs.adaptors.AdaptorPort.take.Goals as goal
 pub returns-then-fits : goal.returns-then-fits
 returns-then-fits g c =
     let f : SFits w32 c.args.f = c.ranges.f in
-    let x : SFits w32 c.get.result = record { sfits = c.get.type-inv } in
-    let y : SFits w32 c.get-then-fits.result = record { sfits = c.get-then-fits.type-inv } in
+    let x : SFits w32 c.get.result = record { sfits = c.get.type_inv } in
+    let y : SFits w32 c.get-then-fits.result = record { sfits = c.get-then-fits.type_inv } in
     let L = g.met.P.Port.lawful in
     let M = g.met.Q.Port.lawful in
     let F = L.fall _ _ _ _ c.take-x.ensures in

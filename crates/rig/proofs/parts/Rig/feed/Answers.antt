@@ -7,7 +7,7 @@ pub returns : goal.returns
 returns g c =
     let rig = c.args.self.now in
     let e : SFits w32 c.args.e = c.ranges.e in
-    let r : SFits w32 c.get.result = record { sfits = c.get.type-inv } in
+    let r : SFits w32 c.get.result = record { sfits = c.get.type_inv } in
     let asked = simp to_z-of_z at c.answer-falling.ensures in
     let rising = c.get.ensures ∙ c.rising-rising.ensures in
     let falling = asked ∙ ap (λ z. g.C.Closing.answers rig.closing z c.args.e c.ratio-ratio.result) rising in (

@@ -8,7 +8,7 @@ use Rattle.rig.proofs.parts.Rig.pass.Goals as goal
 pub returns : goal.returns
 returns g c =
     let x = c.in-Ok.round in
-    let fits : SFits w32 c.wave-of.result = record { sfits = c.wave-of.type-inv } in
+    let fits : SFits w32 c.wave-of.result = record { sfits = c.wave-of.type_inv } in
     let heard : SFits w32 x.heard = search rules in
     let told = simp to_z-of_z at c.in-Ok.ensures in
     let fed = subst (λ (e : ℤ). Fed g.P.Port.reads g.P.Port.takes g.C.Closing.answers c.args.self.now e (Ok x) c.feed.new.self) c.wave-of.ensures told in

@@ -18,8 +18,8 @@ returns-in-Join t c =
     let P = parts _ _ _ _ _ _ c.in-Join.is c.requires.fit in
     let W = waves _ _ _ _ _ _ c.in-Join.is c.requires.waves in
     let fit : SFits w32 c.args.f = c.ranges.f in
-    let gl : SFits w32 c.get.result = record { sfits = c.get.type-inv } in
-    let gr : SFits w32 c.get-in-Join.result = record { sfits = c.get-in-Join.type-inv } in
+    let gl : SFits w32 c.get.result = record { sfits = c.get.type_inv } in
+    let gr : SFits w32 c.get-in-Join.result = record { sfits = c.get-in-Join.type_inv } in
     let f = c.args.f in
     let j = c.in-Join.k.joint in
     let m = model c.in-Join.a.value in

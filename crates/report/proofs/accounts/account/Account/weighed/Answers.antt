@@ -7,8 +7,8 @@ use Rattle.report.proofs.accounts.account.Account.weighed.Goals as goal
 pub returns : goal.returns
 returns c =
     let w : SFits w128 c.args.self.swing = search rules in
-    let a : SFits w128 c.started.result = record { sfits = c.started.type-inv } in
-    let b : SFits w128 c.swung-by.result = record { sfits = c.swung-by.type-inv } in
+    let a : SFits w128 c.started.result = record { sfits = c.started.type_inv } in
+    let b : SFits w128 c.swung-by.result = record { sfits = c.swung-by.type_inv } in
     let s : SFits w128 (c.started.result +ℤ c.swung-by.result) = omega (arith, ints, c.started.ensures.bound, c.swung-by.ensures.bound) in
     record {
       entries = refl;

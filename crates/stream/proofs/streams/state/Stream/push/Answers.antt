@@ -13,7 +13,7 @@ returns-in-None g c = record { halves = (ap (λ (l : Option ℕ). length (waitin
 pub returns-in-Ok : goal.returns-in-Ok
 returns-in-Ok g c =
     let x = c.in-Ok.entry in
-    let fits : SFits w32 c.wave-of.result = record { sfits = c.wave-of.type-inv } in
+    let fits : SFits w32 c.wave-of.result = record { sfits = c.wave-of.type_inv } in
     let heard : SFits w32 x.round.heard = search rules in
     let told = simp to_z-of_z at c.in-Ok.ensures.0 in
     let a = c.args.self.now.session.rig in

@@ -2,8 +2,8 @@ use Rattle.std.proofs.Common.{arith}
 use Rattle.wave.proofs.Divided.{reduced, reduced_only, above, coprime}
 use Rattle.wave.proofs.ratios.lowest.Ratio.new.Goals as goal
 
-pub returns-then-num-gt-LARGEST-NUMBER : goal.returns-then-num-gt-LARGEST-NUMBER
-returns-then-num-gt-LARGEST-NUMBER c = record {
+pub returns-then-num-gt-LARGEST_NUMBER : goal.returns-then-num-gt-LARGEST_NUMBER
+returns-then-num-gt-LARGEST_NUMBER c = record {
   num = _;
   den = _;
   above = omega arith;
@@ -11,10 +11,10 @@ returns-then-num-gt-LARGEST-NUMBER c = record {
   past = omega arith;
 }
 
-pub invariant-of-result : goal.invariant-of-result
-invariant-of-result c =
+pub invariant_of-result : goal.invariant_of-result
+invariant_of-result c =
     let a = above c.args.a c.args.b _ c.gcd-by.ensures (omega arith) (omega arith) in
-    ((a.0, a.1), ((omega arith, omega arith), (coprime _ _ _ c.gcd-by.ensures, tt)))
+    record { above = (a.0, a.1); within = (omega arith, omega arith); lowest = coprime _ _ _ c.gcd-by.ensures }
 
 pub returns : goal.returns
 returns c = let r = reduced _ _ _ c.gcd-by.ensures in (r, reduced_only _ _ _ _ r)
