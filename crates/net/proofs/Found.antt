@@ -1,13 +1,12 @@
 -- What the searches find is what is taken.
-use Rattle.std.proofs.Common.{◌≡◌, ℕ, suc, ◌+◌, ◌<◌, ◌≤◌, max, Bool, true, false, eqb, leb, ◌⊎◌, List, map, length, sym, refl, ap, ◌∙◌, subst, inl, inr, arith}
+use Rattle.std.proofs.Common.{◌≡◌, ℕ, ◌+◌, ◌<◌, ◌≤◌, max, Bool, true, false, eqb, List, map, length, sym, ap, ◌∙◌, subst, inl, inr, arith}
 use Rattle.std.proofs.lemmas.List.{length-map}
 use Rattle.std.proofs.lemmas.Bool.Decides.{leb_tells, eqb_tells, nat_tests}
 use Rattle.net.specs.Wires.{same_ends, touches, far, at}
-use Rattle.net.specs.Choices.{AreTwins, NoTwins, TakenTwins, Meet, AreChain, NoChain, FirstChain, TakenChain, Takes, Stuck, OneChoice}
+use Rattle.net.specs.Choices.{NoTwins, TakenTwins, Meet, AreChain, NoChain, FirstChain, Stuck, OneChoice}
 use Rattle.net.specs.Searches.{Unlike, Partner, Untouched, NextAt}
 use Rattle.net.specs.declared.wires.Wire.{Wire}
 use Rattle.net.specs.declared.wires.Pair.{Pair}
-use Rattle.net.specs.declared.wires.Choice.{Choice}
 use Rattle.net.specs.declared.wires.Choice.TheVariants.{Twins, Chain}
 
 pub never : {x : Bool} → x ≡ true → x ≡ false → ⊥

@@ -1,8 +1,8 @@
 -- The steps lead to one answer only, where what two branches make is one thing and never refused too.
-use Rattle.std.proofs.Common.{◌≡◌, ℕ, List, [], ◌∷◌, get_or, set, sym, refl, ap, ◌∙◌, subst, arith}
+use Rattle.std.proofs.Common.{◌≡◌, List, [], ◌∷◌, get_or, set, sym, refl, ap, ◌∙◌, subst}
 use Rattle.std.specs.List.{remove}
 use Rattle.net.specs.Choices.{Takes, Stuck, chosen_pair, ends_of}
-use Rattle.net.specs.Reductions.{Edge, wires, Stands, Chosen, Step, Steps, none, then, Whole, Answer, Down, Left, Over, EndsDown, EndsLeft, EndsOver, Ends, OneAnswer}
+use Rattle.net.specs.Reductions.{Edge, wires, Chosen, Step, Steps, none, then, Whole, Down, Left, Over, OneAnswer}
 use Rattle.net.specs.declared.wires.Wire.{Wire}
 use Rattle.net.specs.declared.wires.Choice.{Choice}
 use Rattle.net.proofs.Found.{one_choice}

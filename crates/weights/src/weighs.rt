@@ -1,6 +1,6 @@
 ghost use Rattle.std.specs.Prelude.{◌≡◌, ◌*◌, ◌<◌, ◌≤◌, MatchOption};
 ghost use Rattle.weights.specs.Limits.{Scaled, Sized, largest_rate, largest_unit, largest_size};
-ghost use Rattle.weights.specs.Weights.{dividend as dividend-of, divisor as divisor-of, weight, Table};
+ghost use Rattle.weights.specs.Weights.{dividend as dividend_of, divisor as divisor_of, weight, Table};
 
 use crate::scales::{LARGEST_RATE, LARGEST_UNIT, Scale};
 use crate::sizes::{LARGEST_SIZE, Size};
@@ -50,7 +50,7 @@ fn united(x: u64, unit: u32) -> u64
 }
 
 fn dividend(kind: Kind, size: Size, scale: Scale) -> u64
-    ensures { result ≡ dividend-of kind size.value scale.rate }
+    ensures { result ≡ dividend_of kind size.value scale.rate }
 {
     match kind {
         Kind::Resistor => 1_000_000_000,
@@ -60,7 +60,7 @@ fn dividend(kind: Kind, size: Size, scale: Scale) -> u64
 }
 
 fn divisor(kind: Kind, size: Size, scale: Scale) -> u64
-    ensures value { result ≡ divisor-of kind size.value scale.rate scale.unit }
+    ensures value { result ≡ divisor_of kind size.value scale.rate scale.unit }
     ensures above { 0 < result }
 {
     match kind {
