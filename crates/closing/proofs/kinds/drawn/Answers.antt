@@ -13,8 +13,8 @@ drawn_fits c =
     let w = c.args.weight.within in
     fits_of _ (product_most (pos c.get.result) largest_weight c.args.x (3 * largest_wave) (omega arith) c.requires)
 
-pub overflow-mul-result : goal.overflow-mul-result
-overflow-mul-result c =
+pub overflow_mul-result : goal.overflow_mul-result
+overflow_mul-result c =
     let w = c.args.weight.within in
     let l : c.get.result < 2 ^ 31 = omega arith in
     let x : SFits w32 c.args.x = c.ranges.x in
