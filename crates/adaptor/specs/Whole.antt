@@ -4,7 +4,7 @@ use Rattle.std.specs.Prelude.{◌≡◌, ℕ, zero, suc, ◌+◌, ◌-◌, ◌*�
 use Rattle.std.proofs.Common.{sym, ap, ap₂, ◌∙◌, subst, arith}
 use Rattle.std.proofs.Math.IntN.{+ℤ_idl, +ℤ_idr}
 use Rattle.lemmas.proofs.Balance.{Scale, series_scale, parallel_scale, series_exact, parallel_exact, Losses, whole, enough}
-use Rattle.wave.specs.Numbers.{largest_wave, sq, held, short, cut, lost}
+use Rattle.wave.specs.Numbers.{largest_wave, sq, held, short, lost}
 use Rattle.wave.proofs.Losses.{held_same, short_most, lost_is, uncut_lost, lost_uncut, cut_most}
 use Rattle.port.specs.Meaning.{Readings, Sound, Fall, Cleared}
 use Rattle.port.proofs.Shown.{Shown, shown, and_left, and_right}
