@@ -4,7 +4,7 @@
 set -eu
 cd "$(dirname "$0")/.."
 runs=${1:-5}
-rt check bench > /dev/null
+tools/build.sh bench
 cargo build --release --offline --quiet --manifest-path bench/plain/Cargo.toml
 proved=target/bin/bench
 plain=bench/plain/target/release/plain

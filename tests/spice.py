@@ -5,7 +5,7 @@ The door listing is given to ngspice as an ordinary circuit (the source of weigh
 tells its gain. The filter is fed with sines, and its gain is measured by correlation. A wave digital filter has the circuit's gain at the frequency
 that the bilinear rule warps to: f' = rate/pi * tan(pi f/rate). A heard wave is twice the voltage at the resistor, so the filter's gain is 2 v/V.
 
-usage: tests/spice.py        (after 'rt check filter'; needs ngspice: apt-get install ngspice)
+usage: tests/spice.py        (after 'tools/build.sh filter'; needs ngspice: apt-get install ngspice)
 Prints the two gains side by side, writes docs/spice.svg, and ends with status 1 where they differ by more than 0.2 dB from 50 Hz to 7 kHz.
 """
 import cmath
