@@ -19,6 +19,6 @@ loop-field-preserved c =
 pub returns : goal.returns
 returns c =
     record {
-      within = λ _. (c.loop-field.invariant.1.0, (rw append-nil at (c.loop-field.invariant.1.2 [] c.in-default.ensures)), c.loop-field.invariant.1.1);
+      within = λ _. (c.loop-field.invariant.1.0, (rw append-nil at (c.loop-field.invariant.1.2 [] c.in_default.ensures)), c.loop-field.invariant.1.1);
       beyond = λ l. absurd (omega arith);
     }

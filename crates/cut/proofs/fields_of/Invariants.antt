@@ -1,4 +1,4 @@
-use Rattle.std.proofs.Common.{◌≡◌, ◌+◌, ◌-◌, ◌≤◌, List, ◌++◌, take}
+use Rattle.std.proofs.Common.{◌≡◌, ◌-◌, ◌≤◌, List, ◌++◌, take}
 use Rattle.fixed.specs.Held.{held}
 use Rattle.cut.specs.declared.Span.{Span}
 use Rattle.cut.specs.Cuts.{FieldsIn}
