@@ -424,7 +424,7 @@ module _ {t : List ℕ} {q : ℕ} {closed : Bool} {ns : List Node} {es : List El
       -- a line that is passed over, or closes the listing
       pub skipped : (closed' : Bool) → (Carries kd → ⊥) → (closed' ≡ true → Closed t q') → (closed' ≡ false → Closed t q' → ⊥) → Sofar t q' closed' ns es ps
       skipped closed' never shut still =
-          let part : PartLine t here → ⊥ = λ x. never (subst Carries (same_kind (PartMut x.0) x.1) tt) in
+          let part : PartLine t here → ⊥ = λ x. never (subst Carries (same_kind (Part x.0) x.1) tt) in
           let port : PortLine t here → ⊥ = λ x. never (subst Carries (same_kind Port x) tt) in
           record {
             top = onward.1;
@@ -446,15 +446,15 @@ module _ {t : List ℕ} {q : ℕ} {closed : Bool} {ns : List Node} {es : List El
       pub closes : kd ≡ Close → Sofar t q' true ns es ps
       closes is = skipped true (λ c. subst Carries is c) (λ _. shut_now is) (λ e. let y : ◌≡◌ {A = ℕ} 0 1 = cc in absurd (omega arith))
 
-      pub adds : (e : Element) (mid ns' : List Node) → kd ≡ PartMut e.kind → e.name ≡ nth fs 0 → 2 < length fs → Entered t ns (nth fs 1) mid → Entered t mid (nth fs 2) ns' → ElementIs t ns' here e → Sofar t q' closed ns' (es ++ e ∷ []) ps
+      pub adds : (e : Element) (mid ns' : List Node) → kd ≡ Part e.kind → e.name ≡ nth fs 0 → 2 < length fs → Entered t ns (nth fs 1) mid → Entered t mid (nth fs 2) ns' → ElementIs t ns' here e → Sofar t q' closed ns' (es ++ e ∷ []) ps
       adds e mid ns' is named long one two made =
           let part : PartLine t here = (e.kind, subst (Stands t here) is stands) in
-          let port : PortLine t here → ⊥ = λ x. let z : ◌≡◌ {A = LineKind} Port (PartMut e.kind) = same_kind Port x ∙ is in let y : ◌≡◌ {A = ℕ} 0 1 = cc in omega arith in
+          let port : PortLine t here → ⊥ = λ x. let z : ◌≡◌ {A = LineKind} Port (Part e.kind) = same_kind Port x ∙ is in let y : ◌≡◌ {A = ℕ} 0 1 = cc in omega arith in
           record {
             top = onward.1;
             begins = begins_next;
             shut = shut_next;
-            still = λ c. still_next c (λ d. let z : ◌≡◌ {A = LineKind} Close (PartMut e.kind) = sym d ∙ is in let y : ◌≡◌ {A = ℕ} 0 1 = cc in omega arith);
+            still = λ c. still_next c (λ d. let z : ◌≡◌ {A = LineKind} Close (Part e.kind) = sym d ∙ is in let y : ◌≡◌ {A = ℕ} 0 1 = cc in omega arith);
             clean = clean_next;
             nodes = nodes_both (subst Carries (sym is) tt) long mid ns' one two;
             elements = records_more (PartLine t) (ElementIs t ns) (ElementIs t ns') (element_lift mid ns' one two) (λ e. e.name.place) es h.elements (part_some t) (λ l x y. ap (λ s. s.place) y.name) e part made;
@@ -469,7 +469,7 @@ module _ {t : List ℕ} {q : ℕ} {closed : Bool} {ns : List Node} {es : List El
       pub opens : (p : PortRecord) (mid ns' : List Node) → kd ≡ Port → 2 < length fs → Entered t ns (nth fs 1) mid → Entered t mid (nth fs 2) ns' → PortIs t ns' here p → Sofar t q' closed ns' es (ps ++ p ∷ [])
       opens p mid ns' is long one two made =
           let port : PortLine t here = subst (Stands t here) is stands in
-          let part : PartLine t here → ⊥ = λ x. let z : ◌≡◌ {A = LineKind} (PartMut x.0) Port = same_kind (PartMut x.0) x.1 ∙ is in let y : ◌≡◌ {A = ℕ} 0 1 = cc in omega arith in
+          let part : PartLine t here → ⊥ = λ x. let z : ◌≡◌ {A = LineKind} (Part x.0) Port = same_kind (Part x.0) x.1 ∙ is in let y : ◌≡◌ {A = ℕ} 0 1 = cc in omega arith in
           record {
             top = onward.1;
             begins = begins_next;

@@ -1,5 +1,5 @@
--- The kind of a line without a byte, and the word.end by its first byte and the rest.
-use Rattle.std.proofs.Common.{◌≡◌, ℕ, ◌-◌, ◌<◌, ◌≤◌, false, ◌&&◌, eqb, List, [], ◌∷◌, map, length, get_or, codes, refl, ap, arith}
+-- The kind of a line without a byte, and the word .end by its first byte and the rest.
+use Rattle.std.proofs.Common.{◌≡◌, ℕ, ◌<◌, ◌≤◌, false, ◌&&◌, eqb, List, [], ◌∷◌, map, length, get_or, codes, refl, ap, arith}
 use Rattle.std.specs.Char.{to_ascii_lowercase}
 use Rattle.std.specs.Str.{bytes_eq}
 use Rattle.cut.specs.Cuts.{bytes}

@@ -39,7 +39,7 @@ abbrev pub kind_of_line : List ℕ → List Span → LineKind
 kind_of_line t [] = Passed
 kind_of_line t (f ∷ fs) = kind_by (slice_index (bytes t f) 0) (closing (bytes t f))
 
--- past.end only lines that are passed over have a meaning
+-- past .end only lines that are passed over have a meaning
 abbrev pub past : LineKind → LineKind
 past Passed = Passed
 past (Part s) = Strange
@@ -80,7 +80,7 @@ pub record LineIn (t : List ℕ) (q : ℕ) (l : Line) : Type 0 where
 abbrev pub Closed : List ℕ → ℕ → Type 0
 Closed t q = (l : Line) × LineIn t q l × (0 < l.start) × (kind_of_line t l.fields ≡ Close)
 
--- the kind as which a line stands: the title is passed over, and past.end other rules hold
+-- the kind as which a line stands: the title is passed over, and past .end other rules hold
 abbrev pub Stands : List ℕ → Line → LineKind → Type 0
 Stands t l kd = ((l.start ≡ 0) × (kd ≡ Passed)) ⊎ ((0 < l.start) × (((Closed t l.start → ⊥) × (kd ≡ kind_of_line t l.fields)) ⊎ (Closed t l.start × (kd ≡ past (kind_of_line t l.fields)))))
 

@@ -56,7 +56,7 @@ NumberIs t ns s i = (i < length ns) × HoldsAt (λ n. Alike (bytes t n.name) (by
 
 -- e is what an element line says
 pub record ElementIs (t : List ℕ) (ns : List Node) (l : Line) (e : Element) : Type 0 where
-  pub kind : Stands t l (PartMut e.kind)
+  pub kind : Stands t l (Part e.kind)
   pub name : e.name ≡ nth l.fields 0
   pub from : NumberIs t ns (nth l.fields 1) e.ends.from.index
   pub to : NumberIs t ns (nth l.fields 2) e.ends.to.index

@@ -10,7 +10,7 @@ loop-k-preserved c =
     let kd = c.args.kind in
     let fs = c.args.fields.now in
     let k = c.loop-k.k in
-    subst (Least (FormsFault t kd fs (k + 1))) (sym c.sooner-least.ensures) (least_more (FormFaultAt t kd fs) k c.loop-k.least _ c.loop-k.invariant c.form-fault.ensures)
+    subst (Least (FormsFault t kd fs (k + 1))) (sym c.sooner-least.ensures) (least_more (FormFaultAt t kd fs) k c.loop-k.least _ c.loop-k.invariant c.form_fault.ensures)
 
 pub returns : goal.returns
 returns c = subst (λ n. Least (FormsFault c.args.text.now c.args.kind c.args.fields.now n) c.loop-k.least) (omega arith) c.loop-k.invariant

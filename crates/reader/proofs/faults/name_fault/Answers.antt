@@ -13,10 +13,10 @@ returns-in-Some c =
     let told = c.in-Some.ensures in
     name_twice c.args.kind c.args.fields.now _ _ _ _ c.in-Part.is (search rules) (found_among (λ e. e.name) c.args.text.now c.args.elements.now _ _ c.of.ensures _ told.0 told.1)
 
-pub returns-then-elements-ge-MOST-ELEMENTS : goal.returns-then-elements-ge-MOST-ELEMENTS
-returns-then-elements-ge-MOST-ELEMENTS c =
-    name_full c.args.kind c.args.fields.now _ _ _ _ c.in-Part.is (search rules) (none_among (λ e. e.name) c.args.text.now c.args.elements.now _ _ c.of.ensures nobody c.in-default-find.ensures) (omega arith)
+pub returns-then-elements-ge-MOST_ELEMENTS : goal.returns-then-elements-ge-MOST_ELEMENTS
+returns-then-elements-ge-MOST_ELEMENTS c =
+    name_full c.args.kind c.args.fields.now _ _ _ _ c.in-Part.is (search rules) (none_among (λ e. e.name) c.args.text.now c.args.elements.now _ _ c.of.ensures nobody c.in_default-find.ensures) (omega arith)
 
-pub returns-else-elements-ge-MOST-ELEMENTS : goal.returns-else-elements-ge-MOST-ELEMENTS
-returns-else-elements-ge-MOST-ELEMENTS c =
-    name_none c.args.kind c.args.fields.now _ _ _ _ c.in-Part.is (none_among (λ e. e.name) c.args.text.now c.args.elements.now _ _ c.of.ensures nobody c.in-default-find.ensures) (λ l. omega arith)
+pub returns-else-elements-ge-MOST_ELEMENTS : goal.returns-else-elements-ge-MOST_ELEMENTS
+returns-else-elements-ge-MOST_ELEMENTS c =
+    name_none c.args.kind c.args.fields.now _ _ _ _ c.in-Part.is (none_among (λ e. e.name) c.args.text.now c.args.elements.now _ _ c.of.ensures nobody c.in_default-find.ensures) (λ l. omega arith)

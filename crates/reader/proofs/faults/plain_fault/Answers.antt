@@ -18,6 +18,6 @@ returns c =
     let B = FormsFault t kd fs (length fs) in
     let C = MissingFault (stop c.args.line) kd (length fs) in
     let D = NameFault kd fs (Among (λ e. e.name) t es (bytes t (nth fs 0))) (most_elements ≤ length es) (c.args.ported ≡ true) in
-    subst (Least (λ p r. A p r ⊎ (B p r ⊎ (C p r ⊎ D p r)))) (sym c.sooner-3.ensures) (least_either A (λ p r. B p r ⊎ (C p r ⊎ D p r)) _ _ c.long-fault.ensures
-    (subst (Least (λ p r. B p r ⊎ (C p r ⊎ D p r))) (sym c.sooner-2.ensures) (least_either B (λ p r. C p r ⊎ D p r) _ _ c.forms-fault-forms.ensures
-    (subst (Least (λ p r. C p r ⊎ D p r)) (sym c.sooner.ensures) (least_either C D _ _ c.missing-fault-missing.ensures c.name-fault-name.ensures)))))
+    subst (Least (λ p r. A p r ⊎ (B p r ⊎ (C p r ⊎ D p r)))) (sym c.sooner-3.ensures) (least_either A (λ p r. B p r ⊎ (C p r ⊎ D p r)) _ _ c.long_fault.ensures
+    (subst (Least (λ p r. B p r ⊎ (C p r ⊎ D p r))) (sym c.sooner-2.ensures) (least_either B (λ p r. C p r ⊎ D p r) _ _ c.forms_fault-forms.ensures
+    (subst (Least (λ p r. C p r ⊎ D p r)) (sym c.sooner.ensures) (least_either C D _ _ c.missing_fault-missing.ensures c.name_fault-name.ensures)))))

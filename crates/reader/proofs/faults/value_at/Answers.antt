@@ -8,4 +8,4 @@ returns-in-Ok c =
     value_right c.args.text.now c.args.kind c.args.fields.now _ _ c.in-Part.is c.of.ensures _ told.0 told.1
 
 pub returns-in-Err : goal.returns-in-Err
-returns-in-Err c = value_wrong c.args.text.now c.args.kind c.args.fields.now _ _ c.in-Part.is c.of.ensures _ _ (search rules) c.rule-of.ensures c.in-Err.ensures
+returns-in-Err c = value_wrong c.args.text.now c.args.kind c.args.fields.now _ _ c.in-Part.is c.of.ensures _ _ (search rules) c.rule_of.ensures c.in-Err.ensures

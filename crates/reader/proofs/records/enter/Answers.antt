@@ -5,14 +5,14 @@ use Rattle.reader.proofs.records.enter.Goals as goal
 use Rattle.reader.specs.Limits.{most_nodes}
 
 pub returns-in-Some : goal.returns-in-Some
-returns-in-Some c = enter_old c.args.text.now _ c.args.name _ _ c.as-slice.ensures.items c.of.ensures _ c.in-Some.ensures
+returns-in-Some c = enter_old c.args.text.now _ c.args.name _ _ c.as_slice.ensures.items c.of.ensures _ c.in-Some.ensures
 
 pub returns-then-push : goal.returns-then-push
 returns-then-push c =
-    enter_new c.args.text.now _ c.args.name _ _ c.as-slice.ensures.items c.of.ensures _ _ c.in-default.ensures (c.push.ensures.room.0 c.if-push.true) c.push.ensures.items (ap length c.as-slice-index.ensures.items)
+    enter_new c.args.text.now _ c.args.name _ _ c.as_slice.ensures.items c.of.ensures _ _ c.in_default.ensures (c.push.ensures.room.0 c.if-push.true) c.push.ensures.items (ap length c.as_slice-index.ensures.items)
 
 pub returns-else-push : goal.returns-else-push
 returns-else-push c = (
   no_room _ most_nodes (not_from_Decides _ c.push.ensures.room c.if-push.false),
-  no_node c.args.text.now _ c.args.name _ _ c.as-slice.ensures.items c.of.ensures c.in-default.ensures,
+  no_node c.args.text.now _ c.args.name _ _ c.as_slice.ensures.items c.of.ensures c.in_default.ensures,
 )
