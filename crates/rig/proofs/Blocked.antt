@@ -1,7 +1,7 @@
 -- A block, sample by sample.
-use Rattle.std.proofs.Common.{◌≡◌, ℕ, zero, suc, ◌+◌, ◌*◌, ◌/◌, ◌%◌, ◌<◌, ◌≤◌, false, List, [], ◌∷◌, ◌++◌, length, get_or, take, drop, set, ℤ, Ok, sym, refl, ap, ◌∙◌, subst, ap₂, subst₂, append_assoc, arith, length-append, length-take, take_all, drop-cons}
+use Rattle.std.proofs.Common.{◌≡◌, ℕ, suc, ◌+◌, ◌*◌, ◌%◌, ◌<◌, ◌≤◌, false, List, [], ◌∷◌, ◌++◌, length, get_or, take, drop, set, ℤ, Ok, sym, refl, ap, ◌∙◌, subst, ap₂, append_assoc, arith, length-append, length-take, take_all, drop-cons}
 use Rattle.std.proofs.lemmas.List.{take_more, set_at}
-use Rattle.pcm.specs.Samples.{sample_wave, sample_bytes, bits16, sample_of}
+use Rattle.pcm.specs.Samples.{sample_wave, sample_bytes}
 use Rattle.wave.specs.declared.ratios.lowest.Ratio.{Ratio}
 use Rattle.port.specs.Meaning.{Readings}
 use Rattle.port.specs.declared.takings.Taken.{Taken}

@@ -1,5 +1,5 @@
 -- Rounding never makes energy: one call, and then any list of calls.
-use Rattle.std.proofs.Common.{◌≡◌, ℕ, ◌+◌, ◌*◌, ◌<◌, ◌≤◌, List, [], ◌∷◌, ℤ, pos, ◌+ℤ◌, ◌-ℤ◌, Ok, Err, sym, refl, ap, ◌∙◌, subst, subst₂, add-zero, zero-add, arith}
+use Rattle.std.proofs.Common.{◌≡◌, ℕ, ◌+◌, ◌*◌, List, [], ◌∷◌, ℤ, pos, ◌+ℤ◌, Ok, Err, refl, ap, ◌∙◌, subst, subst₂, add-zero, zero-add, arith}
 use Rattle.std.proofs.lemmas.Int.{ints}
 use Rattle.wave.specs.Numbers.{sq, held}
 use Rattle.wave.proofs.Losses.{held_same}

@@ -1,5 +1,5 @@
 -- Over a bounded closing: the energy stays within the offers, and in silence the filter runs down.
-use Rattle.std.proofs.Common.{◌≡◌, ℕ, ◌+◌, ◌*◌, ◌<◌, ◌≤◌, min, List, [], ◌∷◌, ℤ, pos, Ok, Err, sym, refl, ap, subst, subst₂, mul-add, arith}
+use Rattle.std.proofs.Common.{◌≡◌, ℕ, ◌+◌, ◌*◌, ◌≤◌, min, List, ℤ, pos, Ok, Err, sym, refl, subst, subst₂, mul-add, arith}
 use Rattle.wave.specs.Numbers.{sq, held}
 use Rattle.wave.proofs.Losses.{held_same}
 use Rattle.wave.specs.declared.ratios.lowest.Ratio.{Ratio}

@@ -6,8 +6,8 @@ use Rattle.wave.specs.declared.ratios.lowest.Ratio.{Ratio}
 use Rattle.port.specs.Meaning.{Readings, Laws}
 use Rattle.port.specs.declared.takings.Taken.{Taken}
 use Rattle.rig.specs.Pages.{Fresh, Entered, page_of}
-use Rattle.rig.specs.Steps.{Rounded, Emptied}
-use Rattle.rig.specs.Runs.{Event, Run, Step, All, Turns, of_round, of_clear, sum, entries, absorbed, dropped, shortened, swing}
+use Rattle.rig.specs.Steps.{Rounded}
+use Rattle.rig.specs.Runs.{Event, Run, Step, All, Turns, entries, absorbed, dropped, shortened, swing}
 use Rattle.rig.specs.Runs.Event.{feed, raise, answer, withdraw, clear, turn}
 use Rattle.rig.specs.Runs.Run.{done, next}
 use Rattle.rig.specs.Energy.{Begins, Tells, PagesTellTheTruth}

@@ -1,5 +1,5 @@
 -- How long a page is, and the most that one entry can add to its sums.
-use Rattle.std.specs.Prelude.{ℕ, ◌-◌, ◌*◌, ◌^◌}
+use Rattle.std.specs.Prelude.{ℕ, ◌*◌}
 use Rattle.wave.specs.Numbers.{largest_wave, most_energy}
 use Rattle.port.specs.Meaning.{largest_size}
 

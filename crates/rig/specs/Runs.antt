@@ -1,5 +1,5 @@
 -- Any list of calls of a rig, and the sums over what they answered.
-use Rattle.std.specs.Prelude.{◌≡◌, ℕ, ◌+◌, min, List, [], ◌∷◌, ℤ, pos, ◌+ℤ◌, ◌-ℤ◌, Ok, Err, Result}
+use Rattle.std.specs.Prelude.{ℕ, ◌+◌, min, List, [], ◌∷◌, ℤ, pos, ◌+ℤ◌, ◌-ℤ◌, Ok, Err, Result}
 use Rattle.wave.specs.Numbers.{sq}
 use Rattle.wave.specs.declared.ratios.lowest.Ratio.{Ratio}
 use Rattle.port.specs.Meaning.{Readings}

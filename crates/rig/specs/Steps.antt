@@ -1,6 +1,6 @@
 -- What each call of a rig does: one relation for each call, between the rig before it, what it was passed, what it answered, and the rig after it.
 -- A refused call leaves the rig as it was, and says by which refusal; refusals are looked for in the order of their numbers.
-use Rattle.std.specs.Prelude.{◌≡◌, ℕ, ◌<◌, ◌≤◌, Bool, true, false, ℤ, pos, Ok, Err, Result, unsigned_abs}
+use Rattle.std.specs.Prelude.{◌≡◌, ℕ, ◌<◌, ◌≤◌, true, false, ℤ, pos, Ok, Err, Result, unsigned_abs}
 use Rattle.wave.specs.Numbers.{largest_wave}
 use Rattle.wave.specs.declared.ratios.lowest.Ratio.{Ratio}
 use Rattle.port.specs.Meaning.{Readings}

@@ -1,4 +1,4 @@
-use Rattle.std.proofs.Common.{◌≡◌, mul-le-mul}
+use Rattle.std.proofs.Common.{mul-le-mul}
 use Rattle.rig.proofs.tallies.squared.Goals as goal
 
 pub returns : goal.returns

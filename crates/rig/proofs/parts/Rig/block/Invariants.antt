@@ -1,5 +1,3 @@
-use Rattle.std.proofs.Common.{◌≡◌, ◌+◌, ◌/◌, ◌%◌, ◌≤◌, length}
-use Rattle.rig.specs.Limits.{page_length}
 use Rattle.rig.proofs.Blocked.{Progress}
 use Rattle.rig.proofs.parts.Rig.block.Given as goal
 

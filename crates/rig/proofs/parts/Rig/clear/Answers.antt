@@ -6,4 +6,4 @@ entered-self-requires g c =
     let L = g.met.P.Port.lawful in
     let C = L.cleared _ _ _ c.clear-dropped.ensures in
     let S = L.sound c.args.self.now.port in
-    (c.in-ok-ready.ensures.1, (omega arith, (omega arith, omega (arith, C.dropped, S.full, S.sizes))))
+    (c.in_ok-ready.ensures.1, (omega arith, (omega arith, omega (arith, C.dropped, S.full, S.sizes))))

@@ -1,4 +1,4 @@
-use Rattle.std.proofs.Common.{◌≡◌, ℤ, ap, ◌∙◌, subst, w32, SFits, rules}
+use Rattle.std.proofs.Common.{ℤ, ap, ◌∙◌, subst, w32, SFits, rules}
 use Rattle.std.proofs.lemmas.Int.{to_z-of_z}
 use Rattle.rig.specs.Steps.{Rounded}
 use Rattle.rig.proofs.parts.Rig.feed.Goals as goal

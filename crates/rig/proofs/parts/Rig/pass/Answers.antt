@@ -8,14 +8,14 @@ use Rattle.rig.proofs.parts.Rig.pass.Goals as goal
 pub returns : goal.returns
 returns g c =
     let x = c.in-Ok.round in
-    let fits : SFits w32 c.wave-of.result = record { sfits = c.wave-of.type_inv } in
+    let fits : SFits w32 c.wave_of.result = record { sfits = c.wave_of.type_inv } in
     let heard : SFits w32 x.heard = search rules in
     let told = simp to_z-of_z at c.in-Ok.ensures in
-    let fed = subst (λ (e : ℤ). Fed g.P.Port.reads g.P.Port.takes g.C.Closing.answers c.args.self.now e (Ok x) c.feed.new.self) c.wave-of.ensures told in
+    let fed = subst (λ (e : ℤ). Fed g.P.Port.reads g.P.Port.takes g.C.Closing.answers c.args.self.now e (Ok x) c.feed.new.self) c.wave_of.ensures told in
     record {
       round = x;
       run = next (feed _ (Ok x)) fed done;
-      heard = simp to_z-of_z at c.bytes-of.ensures;
+      heard = simp to_z-of_z at c.bytes_of.ensures;
       idle = told.2.round.raised;
       entered = told.2.round.tally.entries;
     }
