@@ -1,22 +1,19 @@
 -- The waves that a tree's joints keep at hand.
-use Rattle.std.proofs.Common.{◌≡◌, ℕ, min, Bool, true, false, ◌&&◌, eqb, ℤ, pos, negsuc, ◌+ℤ◌, sym, refl, ap, ◌∙◌, subst, ap₂, eq-eqb, eqb-true}
+use Rattle.std.proofs.Common.{◌≡◌, ℕ, min, true, ◌&&◌, ℤ, pos, negsuc, ◌+ℤ◌, refl, ap, ◌∙◌, subst, ap₂, eq-eqb, eqb-true}
 use native.Mathlib.Nat.{zero-div}
 use lib.IntN.{*ℤ-zero}
 use Rattle.wave.specs.Numbers.{short, largest_wave}
-use Rattle.wave.specs.declared.waves.Wave.{Wave}
 use Rattle.port.proofs.Shown.{and_left, and_right}
-use Rattle.adaptor.specs.Ways.{rises, rises_over}
+use Rattle.adaptor.specs.Ways.{rises}
 use Rattle.adaptor.specs.declared.ways.Way.{Way}
 use Rattle.adaptor.specs.declared.ways.Way.TheVariants.{Series, Parallel}
 use Rattle.adaptor.specs.Joints.{rising_exact, rising_over}
-use Rattle.adaptor.specs.declared.joints.joint.Joint.{Joint}
 use Rattle.adaptor.specs.Whole.{Fits}
 use Rattle.tree.specs.Models.{Model, leaf, join, reads, fitted, cleared}
 use Rattle.tree.specs.Trees.{model, same, cached}
 use Rattle.tree.specs.declared.trees.Knot.{Knot}
 use Rattle.tree.specs.declared.trees.Tree.{Tree}
-use Rattle.tree.specs.declared.trees.Tree.TheVariants.{Leaf, Join'}
-use Rattle.tree.specs.Elements.{element_reads, element_cleared}
+use Rattle.tree.specs.declared.trees.Tree.TheVariants.{Join'}
 use Rattle.tree.specs.declared.elements.Body.{Body}
 use Rattle.tree.specs.declared.elements.Body.TheVariants.{Store, Resist}
 use Rattle.port.specs.Elements.{raised}

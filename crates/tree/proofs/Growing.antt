@@ -1,5 +1,5 @@
 -- A joint made for two parts that show what two trees read fits those trees.
-use Rattle.std.proofs.Common.{◌≡◌, true, ◌&&◌, sym, refl, subst, ap₂, subst₂}
+use Rattle.std.proofs.Common.{◌≡◌, true, sym, refl, subst, subst₂}
 use Rattle.port.specs.Meaning.{Readings}
 use Rattle.port.specs.Parts.{shows}
 use Rattle.port.specs.declared.parts.fixed.Part.{Part}

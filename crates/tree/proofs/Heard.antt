@@ -1,11 +1,11 @@
 -- What an ear hears is absorbed where it stands.
-use Rattle.std.proofs.Common.{◌≡◌, ℕ, zero, suc, ◌+◌, ◌*◌, ◌<◌, ◌≤◌, Bool, true, false, cond, ℤ, pos, negsuc, ◌+ℤ◌, nat_abs, sym, refl, ap, ◌∙◌, subst, ap₂, le_refl, mul-pos, arith}
+use Rattle.std.proofs.Common.{◌≡◌, ℕ, zero, suc, ◌+◌, ◌*◌, ◌<◌, ◌≤◌, Bool, true, false, cond, ℤ, pos, negsuc, ◌+ℤ◌, sym, refl, ap, ◌∙◌, subst, ap₂, le_refl, mul-pos, arith}
 use lib.IntN.{+ℤ_idl, +ℤ_idr}
 use Rattle.wave.specs.Numbers.{sq, held}
 use Rattle.port.specs.declared.takings.Taken.{Taken}
 use Rattle.adaptor.specs.declared.joints.joint.Joint.{Joint}
 use Rattle.tree.specs.Elements.{body_reads, body_answer}
-use Rattle.tree.specs.Models.{Model, leaf, join, reads, fitted, to_left, to_right, answer, Took}
+use Rattle.tree.specs.Models.{Model, leaf, join, reads, fitted, to_left, to_right, answer}
 use Rattle.tree.specs.Ears.{body_ear, ear_weight, Pays, HeardAbsorbs}
 use Rattle.tree.specs.Trees.{model}
 use Rattle.tree.specs.declared.elements.Body.{Body}

@@ -1,9 +1,9 @@
 -- Steps added one after the other are the steps of the whole.
-use Rattle.std.proofs.Common.{◌≡◌, List, [], ◌∷◌, ◌++◌, IfOk, Ok, Err, Result, sym, refl, ap, ◌∙◌, subst, append_assoc}
+use Rattle.std.proofs.Common.{◌≡◌, List, [], ◌∷◌, ◌++◌, IfOk, Ok, Err, Result, ap, ◌∙◌, append_assoc}
 use Rattle.tree.specs.Models.{Model, join}
 use Rattle.tree.specs.Shapes.{steps}
 use Rattle.tree.specs.declared.shapes.Step.{Step}
-use Rattle.tree.specs.declared.shapes.Step.TheVariants.{Begin, One, By, End}
+use Rattle.tree.specs.declared.shapes.Step.TheVariants.{Begin, By, End}
 use Rattle.adaptor.specs.declared.ways.Way.{Way}
 use Rattle.adaptor.specs.declared.joints.joint.Joint.{Joint}
 

@@ -1,5 +1,5 @@
 -- What an ear hears is absorbed where it stands: no wave is heard for ever for nothing.
-use Rattle.std.specs.Prelude.{◌≡◌, ℕ, ◌+◌, ◌*◌, ◌<◌, ◌≤◌, cond, ℤ, pos, ◌≢◌}
+use Rattle.std.specs.Prelude.{ℕ, ◌+◌, ◌*◌, ◌<◌, ◌≤◌, cond, ℤ, pos, ◌≢◌}
 use Rattle.wave.specs.Numbers.{sq}
 use Rattle.port.specs.declared.takings.Taken.{Taken}
 use Rattle.tree.specs.Models.{Model, leaf, join, Took}

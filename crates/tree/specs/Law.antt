@@ -1,8 +1,8 @@
 -- A tree whose joints were made for their parts keeps the laws of a port, by induction.
-use Rattle.std.specs.Prelude.{◌≡◌, ℕ, ◌+◌, ◌*◌, ◌≤◌, Bool, true, false, ◌&&◌, ℤ, pos, unsigned_abs, refl}
-use Rattle.std.proofs.Common.{sym, ap, ap₂, ◌∙◌, subst, subst₂, arith}
+use Rattle.std.specs.Prelude.{◌≡◌, ℕ, ◌*◌, ◌≤◌, true, ◌&&◌, ℤ, unsigned_abs, refl}
+use Rattle.std.proofs.Common.{sym, ap₂, subst, subst₂, arith}
 use Rattle.wave.specs.Numbers.{largest_wave, most_energy}
-use Rattle.port.specs.Meaning.{largest_size, Readings, Sound, Kept, Fall, Cleared}
+use Rattle.port.specs.Meaning.{largest_size, Sound, Kept, Fall, Cleared}
 use Rattle.port.specs.declared.takings.Taken.{Taken}
 use Rattle.port.proofs.Shown.{and_left, and_right}
 use Rattle.adaptor.specs.Joints as joints

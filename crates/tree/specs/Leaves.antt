@@ -1,12 +1,11 @@
 -- A listing's element keeps the laws of a port; two values with the same numbers are the same.
 use Rattle.std.specs.Prelude.{◌≡◌, ℕ, ◌≤◌, ℤ, pos, unsigned_abs, refl}
-use Rattle.std.proofs.Common.{sym, subst₂, subst}
+use Rattle.std.proofs.Common.{sym, subst₂}
 use mathlib.Core.HLevel.{is_prop→PathP}
 use Rattle.std.proofs.Math.Bridge.{le_prop}
-use Rattle.wave.specs.Numbers.{held, largest_wave}
+use Rattle.wave.specs.Numbers.{largest_wave}
 use Rattle.wave.specs.declared.waves.Wave.{Wave}
-use Rattle.port.specs.Meaning.{Readings, Sound, Fall, Cleared, Laws}
-use Rattle.port.specs.Elements.{Stores}
+use Rattle.port.specs.Meaning.{Sound, Fall, Cleared, Laws}
 use Rattle.port.specs.Lawful.{storage_laws, resistor_laws}
 use Rattle.port.specs.declared.takings.Taken.{Taken}
 use Rattle.port.specs.declared.elements.Storage.{Storage}

@@ -1,4 +1,4 @@
-use Rattle.std.proofs.Common.{◌≡◌, pos, sym, refl, ap, ◌∙◌}
+use Rattle.std.proofs.Common.{pos, sym, ap, ◌∙◌}
 use Rattle.tree.specs.Elements.{wave_of, body_reads, body_cleared}
 use Rattle.tree.specs.declared.elements.Body.{Body}
 use Rattle.tree.specs.declared.elements.Body.TheVariants.{Store}

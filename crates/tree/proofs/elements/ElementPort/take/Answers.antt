@@ -1,6 +1,6 @@
-use Rattle.std.proofs.Common.{◌≡◌, sym, refl, ap, ◌∙◌, w32, SFits}
+use Rattle.std.proofs.Common.{sym, ap, ◌∙◌, w32, SFits}
 use Rattle.std.proofs.lemmas.Int.{to_z-of_z}
-use Rattle.tree.specs.Elements.{wave_of, body_after, body_answer, element_answer}
+use Rattle.tree.specs.Elements.{wave_of, body_after, body_answer}
 use Rattle.tree.specs.declared.elements.Body.{Body}
 use Rattle.tree.specs.declared.elements.Body.TheVariants.{Store}
 use Rattle.tree.specs.declared.elements.Element.{Element}

@@ -1,10 +1,10 @@
-use Rattle.std.proofs.Common.{◌≡◌, ap, ◌∙◌}
+use Rattle.std.proofs.Common.{ap, ◌∙◌}
 use Rattle.tree.specs.Models.{fitted}
 use Rattle.tree.specs.Trees.{model}
 use Rattle.tree.specs.Law.{fits_cleared}
 use Rattle.tree.proofs.listed.ListingTreePort.clear.Goals as goal
 
-pub invariant-of-self : goal.invariant-of-self
-invariant-of-self c =
+pub invariant_of-self : goal.invariant_of-self
+invariant_of-self c =
     let e = c.clear.ensures in
-    (ap fitted e.after ∙ fits_cleared (model c.args.self.now.tree) ∙ c.args.self.now.fits, (e.waves, tt))
+    record { fits = ap fitted e.after ∙ fits_cleared (model c.args.self.now.tree) ∙ c.args.self.now.fits; waves = e.waves }

@@ -1,10 +1,10 @@
-use Rattle.std.proofs.Common.{◌≡◌, ap, ◌∙◌}
+use Rattle.std.proofs.Common.{ap, ◌∙◌}
 use Rattle.tree.specs.Models.{fitted}
 use Rattle.tree.specs.Trees.{model}
 use Rattle.tree.specs.Law.{fits_taken}
 use Rattle.tree.proofs.listed.ListingTreePort.take.Goals as goal
 
-pub invariant-of-self : goal.invariant-of-self
-invariant-of-self c =
+pub invariant_of-self : goal.invariant_of-self
+invariant_of-self c =
     let e = c.take.ensures in
-    (ap fitted e.after ∙ fits_taken (model c.args.self.now.tree) _ ∙ c.args.self.now.fits, (e.waves, tt))
+    record { fits = ap fitted e.after ∙ fits_taken (model c.args.self.now.tree) _ ∙ c.args.self.now.fits; waves = e.waves }

@@ -1,23 +1,23 @@
-use Rattle.std.proofs.Common.{◌≡◌, ◌+◌, true, pos, sym, refl, ap, ◌∙◌, ap₂, arith, rules}
-use Rattle.tree.specs.Models.{join, reads, fitted, cleared}
+use Rattle.std.proofs.Common.{◌≡◌, ◌+◌, pos, sym, ap, ◌∙◌, ap₂, arith}
+use Rattle.tree.specs.Models.{join, reads, cleared}
 use Rattle.tree.specs.Trees.{model}
 use Rattle.tree.specs.Law.{stored_most}
 use Rattle.tree.proofs.Caches.{parts, still_cached, rising_cleared}
 use Rattle.tree.proofs.trees.Tree.+clear.Goals as goal
 
-pub overflow-add-result : goal.overflow-add-result
-overflow-add-result t c =
+pub overflow_add-result : goal.overflow_add-result
+overflow_add-result t c =
     let P = parts _ _ _ _ _ _ c.in-Join.is c.requires in
-    let d₁ : c.deref-mut.result.now ≡ c.in-Join.a.value = c.deref-mut.ensures.value in
-    let d₂ : c.deref-mut-in-Join.result.now ≡ c.in-Join.b.value = c.deref-mut-in-Join.ensures.value in
+    let d₁ : c.deref_mut.result.now ≡ c.in-Join.a.value = c.deref_mut.ensures.value in
+    let d₂ : c.deref_mut-in-Join.result.now ≡ c.in-Join.b.value = c.deref_mut-in-Join.ensures.value in
     let x : c.clear-x.result ≡ (reads (model c.in-Join.a.value)).stored = simp d₁ at c.clear-x.ensures.dropped in
     let y : c.clear-y.result ≡ (reads (model c.in-Join.b.value)).stored = simp d₂ at c.clear-y.ensures.dropped in
     omega (arith, x, y, stored_most (model c.in-Join.a.value) P.left, stored_most (model c.in-Join.b.value) P.right)
 
 pub returns-in-Join : goal.returns-in-Join
 returns-in-Join t c =
-    let d₁ : c.deref-mut.result.now ≡ c.in-Join.a.value = c.deref-mut.ensures.value in
-    let d₂ : c.deref-mut-in-Join.result.now ≡ c.in-Join.b.value = c.deref-mut-in-Join.ensures.value in
+    let d₁ : c.deref_mut.result.now ≡ c.in-Join.a.value = c.deref_mut.ensures.value in
+    let d₂ : c.deref_mut-in-Join.result.now ≡ c.in-Join.b.value = c.deref_mut-in-Join.ensures.value in
     let m = model c.in-Join.a.value in
     let n = model c.in-Join.b.value in
     let x : c.clear-x.result ≡ (reads m).stored = simp d₁ at c.clear-x.ensures.dropped in

@@ -5,8 +5,8 @@ use Rattle.tree.specs.Law.{stored_most}
 use Rattle.tree.proofs.Caches.{parts}
 use Rattle.tree.proofs.trees.Tree.+stored.Goals as goal
 
-pub overflow-add-result : goal.overflow-add-result
-overflow-add-result t c =
+pub overflow_add-result : goal.overflow_add-result
+overflow_add-result t c =
     let P = parts _ _ _ _ _ _ c.in-Join.is c.requires in
     let d₁ : c.deref.result.now ≡ c.in-Join.a.value = c.deref.ensures in
     let d₂ : c.deref-in-Join.result.now ≡ c.in-Join.b.value = c.deref-in-Join.ensures in

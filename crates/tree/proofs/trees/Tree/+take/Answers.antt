@@ -1,17 +1,19 @@
-use Rattle.std.proofs.Common.{◌≡◌, true, sym, refl, ap, ◌∙◌, ap₂, arith, w32, SFits, rules}
+use Rattle.std.proofs.Common.{◌≡◌, sym, ap, ◌∙◌, ap₂, arith, w32, SFits, rules}
 use Rattle.std.proofs.lemmas.Int.{to_z-of_z}
 use Rattle.tree.specs.Models.{join, reads, fitted, to_left, to_right, cuts, taken, answer, summed}
 use Rattle.tree.specs.Trees.{model, cached}
 use Rattle.tree.specs.Law.{answer_most}
 use Rattle.tree.specs.Leaves.{same_taken}
 use Rattle.tree.proofs.Caches.{parts, waves, still_cached}
+use Rattle.tree.specs.declared.trees.Tree.{the_lemmas}
 use Rattle.tree.proofs.trees.Tree.+take.Goals as goal
 
 pub take-y-requires : goal.take-y-requires
 take-y-requires t c =
     let P = parts _ _ _ _ _ _ c.in-Join.is c.requires.fit in
     let W = waves _ _ _ _ _ _ c.in-Join.is c.requires.waves in
-    search rules
+    let d : c.deref_mut-in-Join.result.now ≡ c.in-Join.b.value = c.deref_mut-in-Join.ensures.value in
+    (search (rules, the_lemmas), (ap (λ s. fitted (model s)) d ∙ P.right, ap cached d ∙ W.right))
 
 pub returns-in-Join : goal.returns-in-Join
 returns-in-Join t c =
@@ -33,8 +35,8 @@ returns-in-Join t c =
     let right = simp (hold, W.x, W.y) at R.right in
     let e₁ : c.get.result ≡ l = c.get.ensures ∙ left.wave in
     let e₂ : c.get-in-Join.result ≡ r = c.get-in-Join.ensures ∙ right.wave in
-    let d₁ : c.deref-mut.result.now ≡ c.in-Join.a.value = c.deref-mut.ensures.value in
-    let d₂ : c.deref-mut-in-Join.result.now ≡ c.in-Join.b.value = c.deref-mut-in-Join.ensures.value in
+    let d₁ : c.deref_mut.result.now ≡ c.in-Join.a.value = c.deref_mut.ensures.value in
+    let d₂ : c.deref_mut-in-Join.result.now ≡ c.in-Join.b.value = c.deref_mut-in-Join.ensures.value in
     let x = c.take-x.ensures in
     let y = c.take-y.ensures in
     let a₁ : model c.take-x.new.self ≡ taken m l = simp (d₁, e₁) at (simp to_z-of_z at x.after) in

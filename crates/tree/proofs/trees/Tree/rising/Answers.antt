@@ -1,4 +1,4 @@
-use Rattle.std.proofs.Common.{◌≡◌, sym, ap, ◌∙◌}
+use Rattle.std.proofs.Common.{sym, ap, ◌∙◌}
 use Rattle.tree.specs.Models.{reads}
 use Rattle.tree.specs.Trees.{model}
 use Rattle.tree.proofs.Caches.{waves}
