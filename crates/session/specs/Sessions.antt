@@ -1,5 +1,5 @@
 -- The calls of a session, each a list of calls of its rig: a page is turned as soon as it is full.
-use Rattle.std.specs.Prelude.{◌≡◌, ℕ, ◌+◌, ◌<◌, ◌≤◌, false, List, [], ◌∷◌, ℤ, Some, None, Ok, Err, Option, Result, unsigned_abs}
+use Rattle.std.specs.Prelude.{◌≡◌, ℕ, ◌+◌, ◌<◌, ◌≤◌, List, [], ◌∷◌, ℤ, Some, None, Ok, Err, Option, Result, unsigned_abs}
 use Rattle.wave.specs.Numbers.{largest_wave}
 use Rattle.wave.specs.declared.ratios.lowest.Ratio.{Ratio}
 use Rattle.port.specs.Meaning.{Readings}
@@ -9,7 +9,6 @@ use Rattle.rig.specs.Steps.{Renewed}
 use Rattle.rig.specs.Runs.{Event, Run}
 use Rattle.rig.specs.Runs.Event.{feed, raise, answer, withdraw, clear, turn}
 use Rattle.rig.specs.declared.pages.Page.{Page}
-use Rattle.rig.specs.declared.pages.Round.{Round}
 use Rattle.rig.specs.declared.parts.Rig.{Rig}
 use Rattle.rig.specs.declared.refusals.Refusal.{Refusal}
 use Rattle.rig.specs.declared.refusals.Refusal.TheVariants.{Beyond}

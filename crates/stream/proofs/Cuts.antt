@@ -1,19 +1,18 @@
 -- Two pieces, one after the other, are one piece; and a byte is a piece.
-use Rattle.std.proofs.Common.{◌≡◌, ℕ, ◌+◌, List, [], ◌∷◌, ◌++◌, ℤ, Some, None, Ok, Err, Option, sym, refl, ap, ◌∙◌, subst, ap₂, append_assoc, arith}
+use Rattle.std.proofs.Common.{◌≡◌, ℕ, List, [], ◌∷◌, ◌++◌, ℤ, Some, None, Ok, Err, Option, sym, refl, ap, ◌∙◌, subst, ap₂, append_assoc, arith}
 use Rattle.pcm.specs.Samples.{sample_wave, sample_bytes}
 use Rattle.wave.specs.declared.ratios.lowest.Ratio.{Ratio}
 use Rattle.port.specs.Meaning.{Readings}
 use Rattle.port.specs.declared.takings.Taken.{Taken}
-use Rattle.rig.specs.Limits.{page_length}
 use Rattle.rig.specs.Blocks.{waves_of, heard_bytes}
-use Rattle.rig.specs.Runs.{Event, Run, All, Feeds}
+use Rattle.rig.specs.Runs.{Event, Run, Feeds}
 use Rattle.rig.specs.Runs.Event.{feed, raise, answer, withdraw, clear, turn}
 use Rattle.rig.specs.Runs.Run.{done, next}
 use Rattle.rig.proofs.Blocked.{run_more}
 use Rattle.rig.specs.declared.pages.Page.{Page}
 use Rattle.rig.specs.declared.pages.Round.{Round}
 use Rattle.rig.specs.declared.parts.Rig.{Rig}
-use Rattle.session.specs.Sessions.{turns, Fills, fed}
+use Rattle.session.specs.Sessions.{turns, Fills}
 use Rattle.session.proofs.Sums.{fed-++, all-++, round_fed, round_feeds}
 use Rattle.stream.specs.Pieces.{waiting, left_over, rounds, turned, Full, listed, Pieced, WhateverTheCuts}
 

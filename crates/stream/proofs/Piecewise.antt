@@ -1,15 +1,14 @@
 -- A piece, byte by byte.
-use Rattle.std.proofs.Common.{◌≡◌, ℕ, suc, ◌+◌, ◌<◌, ◌≤◌, Bool, true, false, List, [], ◌∷◌, ◌++◌, length, get_or, take, drop, set, ℤ, is_some, Some, None, Option, sym, refl, ap, ◌∙◌, subst, ap₂, append_assoc, arith, length-append}
+use Rattle.std.proofs.Common.{◌≡◌, ℕ, ◌+◌, ◌<◌, ◌≤◌, false, List, [], ◌∷◌, ◌++◌, length, get_or, take, ℤ, is_some, Some, None, Option, sym, refl, subst, arith}
 use Rattle.std.proofs.lemmas.List.{take_more}
 use Rattle.wave.specs.declared.ratios.lowest.Ratio.{Ratio}
 use Rattle.port.specs.Meaning.{Readings}
 use Rattle.port.specs.declared.takings.Taken.{Taken}
 use Rattle.rig.specs.declared.pages.Page.{Page}
 use Rattle.rig.specs.declared.parts.Rig.{Rig}
-use Rattle.stream.specs.Pieces.{listed, waiting, Halves, heard_of, pages_of, Pieced}
+use Rattle.stream.specs.Pieces.{listed, waiting, Halves, heard_of, Pieced}
 use Rattle.stream.specs.declared.streams.state.Pushed.{Pushed}
 use Rattle.stream.specs.declared.streams.state.Pushed.TheVariants.{Held, Heard}
-use Rattle.stream.specs.declared.streams.state.Stream.{Stream}
 use Rattle.stream.proofs.Cuts.{whatever_the_cuts}
 
 -- every byte comes out again, but for the one that waits

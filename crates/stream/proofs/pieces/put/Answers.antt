@@ -1,4 +1,4 @@
-use Rattle.std.proofs.Common.{◌≡◌, ℕ, ◌+◌, ◌<◌, List, [], ◌∷◌, ◌++◌, length, drop, set, sym, refl, ap, ◌∙◌, ap₂, arith, length-append, length-drop}
+use Rattle.std.proofs.Common.{◌≡◌, ℕ, ◌+◌, ◌<◌, List, [], ◌∷◌, ◌++◌, length, drop, set, sym, ap, ◌∙◌, ap₂, arith, length-append, length-drop}
 use Rattle.rig.proofs.Blocked.{written_two}
 use Rattle.stream.specs.Pieces.{heard_of}
 use Rattle.stream.proofs.pieces.put.Goals as goal

@@ -1,4 +1,4 @@
-use Rattle.std.proofs.Common.{◌≡◌, Ok, w32, SFits}
+use Rattle.std.proofs.Common.{Ok, w32, SFits}
 use Rattle.std.proofs.lemmas.Int.{to_z-of_z}
 use Rattle.rig.specs.Runs.Event.{feed}
 use Rattle.session.proofs.Turnings.{then_turned, fills}
@@ -9,6 +9,6 @@ returns-in-Ok g c =
     let e : SFits w32 c.args.e = c.ranges.e in
     let fed = simp to_z-of_z at c.in-Ok.ensures in
     let a = c.args.self.now in (
-      then_turned _ _ _ _ a.rig (feed c.args.e (Ok c.in-Ok.round)) c.feed.new.self c.turn-full-page.result c.turn-full-page.new.rig fed fed.2.round.raised c.turn-full-page.ensures,
-      fills g.P.Port.reads g.P.Port.takes g.P.Port.clears g.C.Closing.answers a.rig c.feed.new.self _ c.turn-full-page.new.rig fed.2.round.tally.entries a.room c.turn-full-page.ensures,
+      then_turned _ _ _ _ a.rig (feed c.args.e (Ok c.in-Ok.round)) c.feed.new.self c.turn_full-page.result c.turn_full-page.new.rig fed fed.2.round.raised c.turn_full-page.ensures,
+      fills g.P.Port.reads g.P.Port.takes g.P.Port.clears g.C.Closing.answers a.rig c.feed.new.self _ c.turn_full-page.new.rig fed.2.round.tally.entries a.room c.turn_full-page.ensures,
     )

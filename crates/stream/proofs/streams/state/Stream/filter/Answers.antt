@@ -1,4 +1,4 @@
-use Rattle.std.proofs.Common.{◌≡◌, ℕ, List, [], ◌++◌, length, sym, refl, ap, subst, arith, length-append, take_all}
+use Rattle.std.proofs.Common.{ℕ, List, [], ◌++◌, sym, refl, subst, arith, length-append, take_all}
 use Rattle.stream.specs.Pieces.{Pieced, heard_of, pages_of}
 use Rattle.stream.proofs.Cuts.{no_piece}
 use Rattle.stream.proofs.Piecewise.{byte_more, halves_count, waits_most}

@@ -13,12 +13,12 @@ returns-in-None g c = record { halves = (ap (λ (l : Option ℕ). length (waitin
 pub returns-in-Ok : goal.returns-in-Ok
 returns-in-Ok g c =
     let x = c.in-Ok.entry in
-    let fits : SFits w32 c.wave-of.result = record { sfits = c.wave-of.type_inv } in
+    let fits : SFits w32 c.wave_of.result = record { sfits = c.wave_of.type_inv } in
     let heard : SFits w32 x.round.heard = search rules in
     let told = simp to_z-of_z at c.in-Ok.ensures.0 in
     let a = c.args.self.now.session.rig in
-    let run = subst (λ (e : ℤ). Run g.P.Port.reads g.P.Port.takes g.P.Port.clears g.C.Closing.answers a (feed e (Ok x.round) ∷ turns x.page) c.feed.new.self.rig) c.wave-of.ensures told in
-    let out = simp to_z-of_z at c.bytes-of-heard.ensures in
+    let run = subst (λ (e : ℤ). Run g.P.Port.reads g.P.Port.takes g.P.Port.clears g.C.Closing.answers a (feed e (Ok x.round) ∷ turns x.page) c.feed.new.self.rig) c.wave_of.ensures told in
+    let out = simp to_z-of_z at c.bytes_of-heard.ensures in
     record {
       halves = (ap (λ (l : Option ℕ). length (waiting l)) c.in-Some.is, refl);
       piece = second_byte _ _ _ _ a c.args.self.now.low c.in-Some.low _ x.round x.page _ _ c.in-Some.is run c.in-Ok.ensures.1
