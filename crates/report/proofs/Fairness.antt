@@ -1,11 +1,11 @@
 -- Both balances of a report are fair.
-use Rattle.std.proofs.Common.{◌≡◌, ℕ, ◌+◌, ◌*◌, List, [], ◌∷◌, ◌++◌, ℤ, pos, ◌+ℤ◌, ◌*ℤ◌, ◌≤ℤ◌, Ok, Option, sym, refl, ap, ◌∙◌, subst, ap₂, arith}
+use Rattle.std.proofs.Common.{◌≡◌, ℕ, ◌+◌, ◌*◌, List, ◌∷◌, ◌++◌, ℤ, pos, ◌+ℤ◌, ◌*ℤ◌, ◌≤ℤ◌, Ok, Option, sym, ap, ◌∙◌, subst, ap₂, arith}
 use lib.IntN.{+ℤ_idr}
 use Rattle.wave.specs.declared.ratios.lowest.Ratio.{Ratio}
 use Rattle.port.specs.Meaning.{Readings}
 use Rattle.port.specs.declared.takings.Taken.{Taken}
-use Rattle.rig.specs.Energy.{Balance, NeverMakesEnergy}
-use Rattle.rig.specs.Runs.{Event, Run, sum, of_round, of_clear, entries, absorbed, dropped, shortened, swing}
+use Rattle.rig.specs.Energy.{NeverMakesEnergy}
+use Rattle.rig.specs.Runs.{Event, Run, of_round, of_clear, entries, absorbed, dropped, shortened, swing}
 use Rattle.rig.specs.Runs.Event.{clear}
 use Rattle.rig.specs.declared.pages.Page.{Page}
 use Rattle.rig.specs.declared.parts.Rig.{Rig}

@@ -1,5 +1,5 @@
 -- Samples and silence, round by round.
-use Rattle.std.proofs.Common.{◌≡◌, ℕ, suc, ◌+◌, ◌*◌, ◌/◌, ◌%◌, ◌<◌, ◌≤◌, min, Bool, true, false, cond, eqb, ◌⊎◌, List, [], ◌∷◌, ◌++◌, length, get_or, take, ℤ, pos, ◌+ℤ◌, ◌-ℤ◌, Ok, Option, sym, refl, ap, ◌∙◌, subst, ap₂, arith, length-take, take_all}
+use Rattle.std.proofs.Common.{◌≡◌, ℕ, suc, ◌+◌, ◌*◌, ◌/◌, ◌%◌, ◌<◌, ◌≤◌, min, Bool, true, false, cond, eqb, ◌⊎◌, List, [], ◌∷◌, ◌++◌, length, get_or, take, ℤ, pos, ◌+ℤ◌, Ok, Option, sym, refl, ap, ◌∙◌, subst, ap₂, arith, length-take}
 use Rattle.std.proofs.lemmas.Int.{ints}
 use Rattle.pcm.specs.Samples.{sample_wave}
 use Rattle.wave.specs.declared.ratios.lowest.Ratio.{Ratio}
@@ -7,7 +7,7 @@ use Rattle.port.specs.Meaning.{Readings}
 use Rattle.port.specs.declared.takings.Taken.{Taken}
 use Rattle.rig.specs.Blocks.{waves_of}
 use Rattle.rig.proofs.Blocked.{run_more, waves_more, taken_two}
-use Rattle.rig.specs.Runs.{Event, Run, All, Feeds, sum, of_round, of_clear, entries, absorbed, dropped, shortened, swing, busy}
+use Rattle.rig.specs.Runs.{Event, Run, All, Feeds, of_round, of_clear, swing}
 use Rattle.rig.specs.Runs.Event.{feed}
 use Rattle.rig.specs.Runs.Run.{done}
 use Rattle.rig.specs.declared.pages.Page.{Page}
@@ -15,7 +15,7 @@ use Rattle.rig.specs.declared.pages.Round.{Round}
 use Rattle.rig.specs.declared.parts.Rig.{Rig}
 use Rattle.report.specs.Accounts.{Empty, CountsRound}
 use Rattle.session.specs.Sessions.{turns, fed}
-use Rattle.report.specs.Reports.{longest_silence, quiet, idle_after, Adds, Longer, Speech, Hush, Spoken, Rested}
+use Rattle.report.specs.Reports.{longest_silence, quiet, idle_after, Adds, Longer, Hush, Spoken, Rested}
 use Rattle.report.specs.declared.accounts.account.Account.{Account}
 use Rattle.report.specs.declared.reports.Silence.{Silence}
 use Rattle.session.proofs.Sums.{sum-++, swing-++, fed-++, all-++, Comes, round_comes, round_busy, round_fed, round_feeds}

@@ -1,5 +1,5 @@
 -- Sums over a list of calls, and the two sides of the energy statement.
-use Rattle.std.specs.Prelude.{◌≡◌, ℕ, ◌+◌, ◌*◌, ℤ, pos, ◌+ℤ◌, ◌-ℤ◌, ◌*ℤ◌}
+use Rattle.std.specs.Prelude.{◌≡◌, ℕ, ◌+◌, ◌*◌, pos, ◌+ℤ◌, ◌-ℤ◌, ◌*ℤ◌}
 use Rattle.wave.specs.Numbers.{sq}
 use Rattle.rig.specs.declared.pages.Round.{Round}
 use Rattle.report.specs.declared.accounts.Weighing.{Weighing}

@@ -6,8 +6,8 @@ use Rattle.report.proofs.accounts.started.Goals as goal
 most : (d s : ℕ) → d ≤ largest_number → s < 2 ^ 64 → d * s ≤ largest_number * (2 ^ 64 - 1)
 most d s h k = let l : s ≤ 2 ^ 64 - 1 = omega arith in mul-le-mul h l
 
-pub overflow-cast-result-3 : goal.overflow-cast-result-3
-overflow-cast-result-3 c = let h = most c.args.d c.args.s c.requires (omega arith) in record { sfits = omega arith }
+pub overflow_cast-result-3 : goal.overflow_cast-result-3
+overflow_cast-result-3 c = let h = most c.args.d c.args.s c.requires (omega arith) in record { sfits = omega arith }
 
 pub returns : goal.returns
 returns c =

@@ -1,4 +1,4 @@
-use Rattle.std.proofs.Common.{◌≡◌, sym, refl, ap, ◌∙◌, arith}
+use Rattle.std.proofs.Common.{refl, ap, ◌∙◌, arith}
 use Rattle.rig.proofs.Blocked.{run_more}
 use Rattle.report.proofs.Fairness.{Sums, sums_adds, sums_clear, weighs_of, fair_of}
 use Rattle.report.proofs.reports.report_on.Goals as goal

@@ -1,4 +1,4 @@
-use Rattle.std.proofs.Common.{◌∷◌, ℤ, Ok, ◌∙◌, subst, arith, w32, SFits}
+use Rattle.std.proofs.Common.{◌∷◌, ℤ, Ok, subst, arith, w32, SFits}
 use Rattle.std.proofs.lemmas.Int.{to_z-of_z}
 use Rattle.rig.specs.Runs.{Run}
 use Rattle.rig.specs.Runs.Event.{feed}
@@ -11,10 +11,10 @@ loop-i-init g c = said_start _ _ _ _ _ _ _
 
 pub loop-i-preserved : goal.loop-i-preserved
 loop-i-preserved g c =
-    let fits : SFits w32 c.wave-of.result = record { sfits = c.wave-of.type_inv } in
+    let fits : SFits w32 c.wave_of.result = record { sfits = c.wave_of.type_inv } in
     let told = simp to_z-of_z at c.in-Ok.ensures.0 in
     let x = c.in-Ok.entry in
-    let run = subst (λ (e : ℤ). Run g.P.Port.reads g.P.Port.takes g.P.Port.clears g.C.Closing.answers c.loop-i.session.rig (feed e (Ok x.round) ∷ turns x.page) c.feed.new.self.rig) c.wave-of.ensures told in
+    let run = subst (λ (e : ℤ). Run g.P.Port.reads g.P.Port.takes g.P.Port.clears g.C.Closing.answers c.loop-i.session.rig (feed e (Ok x.round) ∷ turns x.page) c.feed.new.self.rig) c.wave_of.ensures told in
     said_more _ _ _ _ _ _ _ _ _ _ _ _ _ _ (omega arith) c.loop-i.invariant run c.counted-account.ensures
 
 pub returns : goal.returns
