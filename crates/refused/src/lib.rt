@@ -18,7 +18,7 @@ mod tests {
             Ok(weight) => {
                 assert_eq!(rt; weight.get(), value);
                 Ok(())
-            },
+            }
             Err(refusal) => Err(Fail::from(refusal)),
         }
     }
@@ -104,7 +104,7 @@ mod tests {
             Err(refusal) => {
                 assert_eq!(rt; refusal, want);
                 Ok(())
-            },
+            }
         }
     }
 

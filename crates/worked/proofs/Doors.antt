@@ -1,15 +1,11 @@
 -- What is taken by a door line that the constructors made, step by step.
-use mathlib.Core.Path.{◌≡◌, refl, sym, ap, ap₂, ◌∙◌, subst}
-use mathlib.Core.Bool.{Bool, true, cond}
-use Prim.Native.Nat.{ℕ, ◌*◌, ◌+◌, ◌≤◌}
-use native.Mathlib.Nat.{zero-add, add-zero}
-use native.Mathlib.Omega.{arith}
-use lib.IntN.{ℤ, pos, nat_abs, ◌+ℤ◌, +ℤ_idl}
+use Rattle.std.specs.Prelude.{◌≡◌, ℕ, ◌+◌, ◌*◌, ◌≤◌, Bool, true, cond, ℤ, pos, ◌+ℤ◌, unsigned_abs, refl}
+use Rattle.std.proofs.Common.{ap, ap₂, ◌∙◌, subst, zero-add, add-zero}
+use Rattle.std.proofs.Math.IntN.{+ℤ_idl}
 use Rattle.wave.specs.Numbers.{largest_wave, sq, held, short, cut}
 use Rattle.wave.specs.Terms.{Reduced}
 use Rattle.wave.proofs.Losses.{held_same, short_most}
 use Rattle.wave.proofs.Divided.{reduced_only}
-use Rattle.port.specs.Meaning.{Readings, Kept}
 use Rattle.port.specs.Elements.{raised, storage_reads, resistor_reads}
 use Rattle.port.specs.declared.takings.Taken.{Taken}
 use Rattle.port.specs.declared.elements.StorageKind.TheVariants.{Capacitor, Coil}
@@ -21,7 +17,7 @@ use Rattle.adaptor.specs.Adapted.{fits_kept}
 use Rattle.adaptor.specs.declared.ways.Way.{Way}
 use Rattle.adaptor.specs.declared.ways.Way.TheVariants.{Series, Parallel}
 use Rattle.worked.proofs.Euclid.{shunt_shares, shunt_ratio, line_shares, line_ratio}
-use Rattle.worked.specs.Line.{States, at_rest, shunt_rising, shunt_falling, rising, after, absorbed, shortened, heard, stored}
+use Rattle.worked.specs.Line.{States, at_rest, shunt_rising, rising, after, absorbed, shortened, heard, stored}
 use Rattle.worked.specs.Door.{Shunt, shunt_reads, shunt_takes, Door, door_reads, door_takes, Built}
 
 falls_at : {w w' : Way} {q q' p p' s s' : ℕ} {r r' t t' f f' : ℤ} → w ≡ w' → q ≡ q' → p ≡ p' → r ≡ r' → s ≡ s' → t ≡ t' → f ≡ f' →
@@ -82,7 +78,7 @@ module _ (b : ℤ) (m : Shunt) (F : ShuntIn b m) where
   shunt_stores = ap (λ (x : Bool). cond x (m.left.weight.value * sq m.left.state.value + 0) 0) F.fit
       ∙ add-zero (m.left.weight.value * sq m.left.state.value) ∙ ap₂ (λ w s. w * sq s) F.weight F.state
 
-  shunt_took : (f : ℤ) (t : Taken) (z : Shunt) → nat_abs f ≤ largest_wave → shunt_takes m f t z → ShuntTook b f t z
+  shunt_took : (f : ℤ) (t : Taken) (z : Shunt) → unsigned_abs f ≤ largest_wave → shunt_takes m f t z → ShuntTook b f t z
   shunt_took f t z h T =
       let j = m.joint in
       let P = T.passes F.fit in

@@ -1,9 +1,7 @@
 -- Greatest common divisors of given numbers, by Euclid's way.
-use mathlib.Core.Path.{◌≡◌, refl}
-use Prim.Native.Nat.{ℕ, ◌<◌, ◌∣◌}
-use native.Mathlib.Omega.{arith}
+use Rattle.std.proofs.Common.{ℕ, ◌<◌, refl, arith}
 use Rattle.wave.proofs.Divided.{Same, same_step, same_end}
-use Rattle.wave.specs.Terms.{Gcd, Reduced}
+use Rattle.wave.specs.Terms.{Reduced}
 
 begin : (a b : ℕ) → 0 < a → Same a b a b
 begin a b h = record { above = h; left = λ _ u _. u; right = λ _ _ w. w; left_back = λ _ u _. u; right_back = λ _ _ w. w }

@@ -1,5 +1,5 @@
 -- Worked examples, as values of the definitions.
-use Rattle.std.specs.Prelude.{◌≡◌, ℕ, ◌+◌, ◌*◌, ℤ, pos, negsuc}
+use Rattle.std.specs.Prelude.{◌≡◌, ◌*◌, pos, negsuc}
 use Rattle.wave.specs.Numbers.{short}
 use Rattle.wave.specs.Terms.{Reduced}
 use Rattle.adaptor.specs.Ways.{whole_num, whole_den}

@@ -1,6 +1,5 @@
-use mathlib.Core.Path.{refl}
+use Rattle.std.proofs.Common.{refl, pos}
 use Rattle.worked.proofs.Euclid.{shunt_shares, shunt_ratio, line_shares, line_ratio}
-use lib.IntN.{pos}
 use Rattle.worked.specs.Line.{at_rest}
 use Rattle.worked.proofs.Doors.{door_made, door_took, door_rises, door_stores}
 use Rattle.worked.proofs.worked_examples.Goals as goal
