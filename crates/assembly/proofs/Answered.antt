@@ -1,21 +1,17 @@
 -- From what the parts of assembling answer to what it answers.
-use Rattle.std.proofs.Common.{◌≡◌, ℕ, ◌<◌, ◌≤◌, Bool, true, false, ◌⊎◌, List, length, get_or, is_some, Some, None, Option, sym, refl, ap, ◌∙◌, subst, inl, inr, zero-le, arith}
+use Rattle.std.proofs.Common.{◌≡◌, ℕ, ◌<◌, true, false, List, length, get_or, is_some, Some, None, Option, sym, ap, ◌∙◌, subst, inl, inr, zero-le, arith}
 use Rattle.std.proofs.lemmas.Bool.Decides.{leb_tells}
 use Rattle.fixed.specs.Held.{held}
-use Rattle.names.specs.Alike.{NoneCalled, FirstCalled}
-use Rattle.values.specs.declared.Kind.TheVariants.{Resistor}
 use Rattle.reader.specs.Answers as reader
 use Rattle.reader.specs.declared.Element.{Element}
 use Rattle.reader.specs.declared.Listing.{Listing}
 use Rattle.weights.specs.Limits.{Scaled}
-use Rattle.tree.specs.Models.{Model}
-use Rattle.net.specs.Reductions.{Edge}
 use Rattle.net.specs.declared.wires.Wire.{Wire}
 use Rattle.net.proofs.Unique.{one_answer}
 use Rattle.assembly.specs.Branches.{way_for, Joins, Refused}
 use Rattle.assembly.specs.Beginnings.{Earless, EarIs}
-use Rattle.assembly.specs.Inner.{GrownFrom, Ungrown}
-use Rattle.assembly.specs.Assemblies.{port_of, Begun, Refuses, OneEnd}
+use Rattle.assembly.specs.Inner.{Ungrown}
+use Rattle.assembly.specs.Assemblies.{port_of, Refuses, OneEnd}
 use Rattle.assembly.specs.declared.faults.AssemblyFault.{AssemblyFault}
 use Rattle.assembly.specs.declared.faults.AssemblyFault.TheVariants.{Reading, OutOfRange, BadWeight, Irreducible, TooLarge, NoEar}
 use Rattle.assembly.proofs.OneTree.{one_tree, not_both}

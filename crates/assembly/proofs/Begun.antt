@@ -1,5 +1,5 @@
 -- The leaves of a listing's elements.
-use Rattle.std.proofs.Common.{◌≡◌, ℕ, ◌+◌, ◌<◌, ◌≤◌, Bool, true, false, cond, eqb, ltb, ◌⊎◌, List, [], ◌∷◌, ◌++◌, map, length, get_or, Some, None, Option, sym, refl, ap, ◌∙◌, subst, inl, inr, arith, below_more}
+use Rattle.std.proofs.Common.{◌≡◌, ℕ, ◌+◌, ◌<◌, ◌≤◌, Bool, cond, ◌⊎◌, List, [], ◌∷◌, ◌++◌, length, get_or, Some, None, Option, sym, refl, ap, ◌∙◌, subst, inl, inr, arith, below_more}
 use Rattle.std.proofs.lemmas.List.{length-map, map_push, get_or_append_left, get_or_push, get_or_default}
 use Rattle.std.proofs.lemmas.List.Sums.{sum_by_push}
 use Rattle.std.proofs.lemmas.Bool.Decides.{nat_tests}
@@ -9,7 +9,7 @@ use Rattle.wave.specs.declared.weights.WeightRefusal.TheVariants as refusals
 use Rattle.values.specs.declared.Kind.{Kind}
 use Rattle.values.specs.declared.Kind.TheVariants.{Resistor, Capacitor, Coil}
 use Rattle.reader.specs.declared.Element.{Element}
-use Rattle.tree.specs.Models.{Model, leaf, reads}
+use Rattle.tree.specs.Models.{Model, reads}
 use Rattle.tree.specs.Elements.{body_reads}
 use Rattle.tree.specs.declared.elements.Body.{Body}
 use Rattle.tree.specs.declared.elements.Body.TheVariants.{Store, Resist}

@@ -1,15 +1,13 @@
 -- What a reader's answer says of the values and the number of elements.
-use Rattle.std.proofs.Common.{◌≡◌, ℕ, ◌<◌, ◌≤◌, min, ◌⊎◌, List, length, get_or, refl, inl, inr, zero-le, arith}
+use Rattle.std.proofs.Common.{ℕ, ◌<◌, ◌≤◌, List, length, get_or, refl, inl, inr, zero-le, arith}
 use Rattle.std.proofs.lemmas.List.{length-take}
 use Rattle.std.proofs.lemmas.Bool.Decides.{leb_tells}
 use Rattle.fixed.specs.Held.{held}
 use Rattle.fixed.specs.declared.room.Fixed.{Fixed}
-use Rattle.cut.specs.Cuts.{bytes}
-use Rattle.values.specs.Values.{Valued, InRange}
-use Rattle.values.specs.declared.Wrong.TheVariants.{Form, Range}
-use Rattle.reader.specs.Lines.{Line, nth}
+use Rattle.values.specs.Values.{InRange}
+use Rattle.values.specs.declared.Wrong.TheVariants.{Range}
+use Rattle.reader.specs.Lines.{nth}
 use Rattle.reader.specs.Records.{ElementIs}
-use Rattle.reader.specs.Faults.{FaultAt}
 use Rattle.reader.specs.Answers.{Whole, Reads}
 use Rattle.reader.specs.declared.Element.{Element}
 use Rattle.reader.specs.declared.Node.{Node}

@@ -1,10 +1,10 @@
 -- What two trees make is one tree, and they are not refused as well.
-use Rattle.std.proofs.Common.{◌≡◌, ℕ, ◌+◌, ◌*◌, ◌<◌, ◌≤◌, max, Bool, true, false, ◌&&◌, eqb, ◌⊎◌, sym, refl, ap, ◌∙◌, subst, inl, inr, arith}
+use Rattle.std.proofs.Common.{◌≡◌, ℕ, ◌+◌, ◌*◌, ◌<◌, ◌≤◌, true, ◌&&◌, eqb, sym, ap, ◌∙◌, subst, inl, inr, arith}
 use mathlib.Core.HLevel.{is_prop→PathP, ×₃_prop}
 use native.Mathlib.Nat.{ℕ_set}
 use native.Mathlib.Bridge.{le_prop}
 use Rattle.std.proofs.lemmas.Bool.Decides.{nat_tests}
-use Rattle.wave.specs.Terms.{Coprime, Reduced, Only, largest_number}
+use Rattle.wave.specs.Terms.{Coprime, Reduced, largest_number}
 use Rattle.wave.specs.Refusals.{Past}
 use Rattle.wave.specs.declared.ratios.lowest.Ratio.{Ratio}
 use Rattle.wave.specs.declared.shortening.shortened.Divisor.{Divisor}

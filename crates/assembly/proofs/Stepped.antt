@@ -1,12 +1,11 @@
 -- What taking two branches out and putting one in does to the list of branches.
-use Rattle.std.proofs.Common.{◌≡◌, ℕ, suc, ◌+◌, ◌*◌, ◌<◌, ◌≤◌, true, false, ◌⊎◌, List, [], ◌∷◌, map, length, get_or, set, sym, refl, ap, ◌∙◌, subst, inl, inr, arith}
+use Rattle.std.proofs.Common.{◌≡◌, ℕ, ◌+◌, ◌<◌, ◌≤◌, true, false, List, [], ◌∷◌, map, length, get_or, set, sym, refl, ap, ◌∙◌, subst, arith}
 use Rattle.std.specs.List.{remove, insert}
-use Rattle.std.proofs.lemmas.List.{length-map, map-set, get_or-map, get_or_default}
-use Rattle.std.proofs.lemmas.List.Edits.{get_or-remove_below, length-remove}
+use Rattle.std.proofs.lemmas.List.{length-map, map-set, get_or-map}
+use Rattle.std.proofs.lemmas.List.Edits.{get_or-remove_below}
 use Rattle.port.specs.Meaning.{largest_size}
 use Rattle.adaptor.specs.Joins.{Parted}
 use Rattle.adaptor.specs.declared.ways.Way.{Way}
-use Rattle.adaptor.specs.declared.joints.JoinRefusal.{JoinRefusal}
 use Rattle.adaptor.specs.declared.joints.JoinRefusal.TheVariants.{Number, Size, Ears}
 use Rattle.tree.specs.Models.{Model, reads}
 use Rattle.tree.specs.Growth.{Grown, Ungrown}
@@ -14,7 +13,7 @@ use Rattle.tree.specs.declared.grown.Refusal.{Refusal}
 use Rattle.tree.specs.declared.grown.Refusal.TheVariants.{NoRoom, NoJoint}
 use Rattle.net.specs.Wires.{same_ends, at, far, nowhere}
 use Rattle.net.specs.Choices.{Takes, Stuck, chosen_pair, ends_of}
-use Rattle.net.specs.Reductions.{Edge, wires, Stands, Chosen, Step, Steps, none, then, EndsOver, Whole}
+use Rattle.net.specs.Reductions.{Edge, wires, Stands, Step, Steps, EndsOver, Whole}
 use Rattle.net.specs.declared.wires.Wire.{Wire}
 use Rattle.net.specs.declared.wires.Pair.{Pair}
 use Rattle.net.specs.declared.wires.Choice.{Choice}

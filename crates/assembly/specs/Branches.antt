@@ -1,6 +1,5 @@
 -- The branches of a listing, with their trees free of pointers, and what two of them make.
 use Rattle.std.specs.Prelude.{List, map}
-use Rattle.port.specs.Meaning.{Readings}
 use Rattle.adaptor.specs.Joins.{Parted}
 use Rattle.adaptor.specs.declared.ways.Way.{Way}
 use Rattle.adaptor.specs.declared.ways.Way.TheVariants.{Series, Parallel}

@@ -4,8 +4,8 @@ use Rattle.std.specs.List.{AllWithin, remove}
 use Rattle.port.specs.Meaning.{largest_size}
 use Rattle.tree.specs.Models.{Model, reads}
 use Rattle.net.specs.Wires.{far}
-use Rattle.net.specs.Choices.{chosen_pair, ends_of}
-use Rattle.net.specs.Reductions.{Edge, wires, Stands, EndsDown, EndsLeft, EndsOver}
+use Rattle.net.specs.Choices.{chosen_pair}
+use Rattle.net.specs.Reductions.{Edge, Stands, EndsDown, EndsLeft, EndsOver}
 use Rattle.net.specs.declared.wires.Wire.{Wire}
 use Rattle.net.specs.declared.wires.Choice.{Choice}
 use Rattle.net.specs.declared.wires.Choice.TheVariants.{Twins, Chain}

@@ -1,4 +1,4 @@
-use Rattle.std.proofs.Common.{◌≡◌, ℕ, ◌<◌, ◌≤◌, true, false, not, List, length, is_some, sym, refl, ap, ◌∙◌, subst, arith}
+use Rattle.std.proofs.Common.{◌≡◌, ℕ, ◌<◌, ◌≤◌, false, not, List, is_some, refl, ap, ◌∙◌, subst, arith}
 use Rattle.std.proofs.lemmas.Result.{err_from_is_err_and}
 use Rattle.fixed.specs.Held.{held}
 use Rattle.reader.specs.declared.Element.{Element}
@@ -10,15 +10,15 @@ use Rattle.assembly.specs.Inner.{GrownFrom, Ungrown}
 use Rattle.assembly.specs.Assemblies.{port_of}
 use Rattle.assembly.proofs.Answered.{one_end, moved, refused, no_ear, has_ear}
 use Rattle.assembly.proofs.assembling.assemble.Goals as goal
-use Rattle.assembly.proofs.assembling.assemble.Goals.{else-is-none-via-then-is-none+else-ear-gt0, else-is-none-via-else-is-none}
+use Rattle.assembly.proofs.assembling.assemble.Goals.{else-is_none-via-then-is_none+else-ear-gt0, else-is_none-via-else-is_none}
 
-pub returns-in-err-listing : goal.returns-in-err-listing
-returns-in-err-listing c =
-    let p = err_from_is_err_and c.from-residual.result c.from-residual.ensures.1 in
-    record { answer = rw (p.1, p.2) (c.in-err-listing.ensures.answer, refl); only = one_end }
+pub returns-in_err-listing : goal.returns-in_err-listing
+returns-in_err-listing c =
+    let p = err_from_is_err_and c.from_residual.result c.from_residual.ensures.1 in
+    record { answer = rw (p.1, p.2) (c.in_err-listing.ensures.answer, refl); only = one_end }
 
-pub returns-in-default : goal.returns-in-default
-returns-in-default c = record { answer = ((c.in-ok-listing.listing, c.in-ok-listing.ensures.answer, c.in-default.ensures), refl); only = one_end }
+pub returns-in_default : goal.returns-in_default
+returns-in_default c = record { answer = ((c.in_ok-listing.listing, c.in_ok-listing.ensures.answer, c.in_default.ensures), refl); only = one_end }
 
 pub returns-in-Err : goal.returns-in-Err
 returns-in-Err c =
@@ -26,16 +26,16 @@ returns-in-Err c =
     let name = c.args.ear.now in
     let rate = c.args.rate in
     let unit = c.args.unit in
-    let d = c.in-ok-listing.listing in
-    let read = c.in-ok-listing.ensures.answer in
+    let d = c.in_ok-listing.listing in
+    let read = c.in_ok-listing.ensures.answer in
     let s = c.in-Some.scale in
     let a = c.in-Some.ensures.0 in
     let b = c.in-Some.ensures.1 in
     let scaled : Scaled rate unit = (subst (λ (x : ℕ). 0 < x) a s.fast.0, subst (λ (x : ℕ). x ≤ 192000) a s.fast.1, subst (λ (x : ℕ). 0 < x) b s.fine.0, subst (λ (x : ℕ). x ≤ 100000) b s.fine.1) in
-    let ear = c.ear-of-at.result in
-    let eared : EarIs t (held d.elements) name ear = subst (λ (l : List Element). EarIs t l name ear) c.as-slice-elements.ensures.items c.ear-of-at.ensures in
+    let ear = c.ear_of-at.result in
+    let eared : EarIs t (held d.elements) name ear = subst (λ (l : List Element). EarIs t l name ear) c.as_slice-elements.ensures.items c.ear_of-at.ensures in
     let wire : ◌≡◌ {A = Wire} (port_of d) (port_of d) = refl in
-    let u : Ungrown rate unit ear (held d.elements) (port_of d) c.in-Err.fault = moved (λ r u l w. Ungrown r u ear l w c.in-Err.fault) a b c.as-slice-elements.ensures.items wire c.in-Err.ensures in
+    let u : Ungrown rate unit ear (held d.elements) (port_of d) c.in-Err.fault = moved (λ r u l w. Ungrown r u ear l w c.in-Err.fault) a b c.as_slice-elements.ensures.items wire c.in-Err.ensures in
     record { answer = (refused t name rate unit d ear c.in-Err.fault read scaled eared u, refl); only = one_end }
 
 pub returns-then-ear-gt0 : goal.returns-then-ear-gt0
@@ -44,17 +44,17 @@ returns-then-ear-gt0 c =
     let name = c.args.ear.now in
     let rate = c.args.rate in
     let unit = c.args.unit in
-    let d = c.in-ok-listing.listing in
-    let read = c.in-ok-listing.ensures.answer in
+    let d = c.in_ok-listing.listing in
+    let read = c.in_ok-listing.ensures.answer in
     let s = c.in-Some.scale in
     let a = c.in-Some.ensures.0 in
     let b = c.in-Some.ensures.1 in
     let scaled : Scaled rate unit = (subst (λ (x : ℕ). 0 < x) a s.fast.0, subst (λ (x : ℕ). x ≤ 192000) a s.fast.1, subst (λ (x : ℕ). 0 < x) b s.fine.0, subst (λ (x : ℕ). x ≤ 100000) b s.fine.1) in
-    let ear = c.ear-of-at.result in
-    let eared : EarIs t (held d.elements) name ear = subst (λ (l : List Element). EarIs t l name ear) c.as-slice-elements.ensures.items c.ear-of-at.ensures in
+    let ear = c.ear_of-at.result in
+    let eared : EarIs t (held d.elements) name ear = subst (λ (l : List Element). EarIs t l name ear) c.as_slice-elements.ensures.items c.ear_of-at.ensures in
     let wire : ◌≡◌ {A = Wire} (port_of d) (port_of d) = refl in
-    let g : GrownFrom rate unit ear (held d.elements) (port_of d) (model c.in-Ok.tree.tree) = moved (λ r u l w. GrownFrom r u ear l w (model c.in-Ok.tree.tree)) a b c.as-slice-elements.ensures.items wire c.in-Ok.ensures in
-    let none : is_some ear ≡ false = c.is-none.ensures ∙ ap not c.if-is-none.true in
+    let g : GrownFrom rate unit ear (held d.elements) (port_of d) (model c.in-Ok.tree.tree) = moved (λ r u l w. GrownFrom r u ear l w (model c.in-Ok.tree.tree)) a b c.as_slice-elements.ensures.items wire c.in-Ok.ensures in
+    let none : is_some ear ≡ false = c.is_none.ensures ∙ ap not c.if-is_none.true in
     record {
       answer = (
         (
@@ -76,19 +76,19 @@ returns c =
     let name = c.args.ear.now in
     let rate = c.args.rate in
     let unit = c.args.unit in
-    let d = c.in-ok-listing.listing in
-    let read = c.in-ok-listing.ensures.answer in
+    let d = c.in_ok-listing.listing in
+    let read = c.in_ok-listing.ensures.answer in
     let s = c.in-Some.scale in
     let a = c.in-Some.ensures.0 in
     let b = c.in-Some.ensures.1 in
     let scaled : Scaled rate unit = (subst (λ (x : ℕ). 0 < x) a s.fast.0, subst (λ (x : ℕ). x ≤ 192000) a s.fast.1, subst (λ (x : ℕ). 0 < x) b s.fine.0, subst (λ (x : ℕ). x ≤ 100000) b s.fine.1) in
-    let ear = c.ear-of-at.result in
-    let eared : EarIs t (held d.elements) name ear = subst (λ (l : List Element). EarIs t l name ear) c.as-slice-elements.ensures.items c.ear-of-at.ensures in
+    let ear = c.ear_of-at.result in
+    let eared : EarIs t (held d.elements) name ear = subst (λ (l : List Element). EarIs t l name ear) c.as_slice-elements.ensures.items c.ear_of-at.ensures in
     let wire : ◌≡◌ {A = Wire} (port_of d) (port_of d) = refl in
-    let g : GrownFrom rate unit ear (held d.elements) (port_of d) (model c.in-Ok.tree.tree) = moved (λ r u l w. GrownFrom r u ear l w (model c.in-Ok.tree.tree)) a b c.as-slice-elements.ensures.items wire c.in-Ok.ensures in
-    let fits : Earless t (held d.elements) name → ⊥ = elim c.else-is-none.branch [
-      | else-is-none-via-then-is-none+else-ear-gt0 w ↦ λ e. omega (arith, e.0, w.if-ear-gt0.false)
-      | else-is-none-via-else-is-none w ↦ has_ear t (held d.elements) name ear eared (c.is-none.ensures ∙ ap not w.if-is-none.false)
+    let g : GrownFrom rate unit ear (held d.elements) (port_of d) (model c.in-Ok.tree.tree) = moved (λ r u l w. GrownFrom r u ear l w (model c.in-Ok.tree.tree)) a b c.as_slice-elements.ensures.items wire c.in-Ok.ensures in
+    let fits : Earless t (held d.elements) name → ⊥ = elim c.else-is_none.branch [
+      | else-is_none-via-then-is_none+else-ear-gt0 w ↦ λ e. omega (arith, e.0, w.if-ear-gt0.false)
+      | else-is_none-via-else-is_none w ↦ has_ear t (held d.elements) name ear eared (c.is_none.ensures ∙ ap not w.if-is_none.false)
     ] in
     record {
       answer = record {

@@ -1,4 +1,4 @@
-use Rattle.std.proofs.Common.{◌≡◌, ◌<◌, length, get_or, sym, ap, ◌∙◌, inl, inr, arith}
+use Rattle.std.proofs.Common.{get_or, sym, ap, ◌∙◌, inr, arith}
 use Rattle.std.proofs.lemmas.List.{get_or_default}
 use Rattle.reader.specs.declared.Element.{Element}
 use Rattle.assembly.proofs.Begun.{blank, other_kind}

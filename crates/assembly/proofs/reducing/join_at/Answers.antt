@@ -1,4 +1,4 @@
-use Rattle.std.proofs.Common.{◌≡◌, ◌+◌, ◌<◌, vec_items, vec_len, sym, refl, ◌∙◌, subst, arith}
+use Rattle.std.proofs.Common.{◌≡◌, ◌<◌, vec_items, vec_len, sym, refl, subst, arith}
 use Rattle.adaptor.specs.Joins.{Parted}
 use Rattle.adaptor.specs.declared.ways.Way.{Way}
 use Rattle.adaptor.specs.declared.joints.JoinRefusal.TheVariants.{Number}
@@ -12,8 +12,8 @@ use Rattle.assembly.proofs.reducing.join_at.Goals as goal
 
 pub joined-requires : goal.joined-requires
 joined-requires c =
-    let p = c.pair-of-pair.result in
-    let e : p ≡ chosen_pair c.args.choice = c.pair-of-pair.ensures in
+    let p = c.pair_of-pair.result in
+    let e : p ≡ chosen_pair c.args.choice = c.pair_of-pair.ensures in
     let order : p.low < p.high = subst (λ (q : Pair). q.low < q.high) (sym e) c.requires.order in
     let within : p.high < vec_len c.args.branches.now = subst (λ (q : Pair). q.high < vec_len c.args.branches.now) (sym e) c.requires.within in
     let o : TakenOut (vec_items c.args.branches.now) (vec_items c.remove-b.new.self) (vec_items c.remove-a.new.self) p.low p.high c.remove-a.result c.remove-b.result
@@ -30,8 +30,8 @@ joined-requires c =
 
 pub returns : goal.returns
 returns c =
-    let p = c.pair-of-pair.result in
-    let e : p ≡ chosen_pair c.args.choice = c.pair-of-pair.ensures in
+    let p = c.pair_of-pair.result in
+    let e : p ≡ chosen_pair c.args.choice = c.pair_of-pair.ensures in
     let order : p.low < p.high = subst (λ (q : Pair). q.low < q.high) (sym e) c.requires.order in
     let within : p.high < vec_len c.args.branches.now = subst (λ (q : Pair). q.high < vec_len c.args.branches.now) (sym e) c.requires.within in
     let o : TakenOut (vec_items c.args.branches.now) (vec_items c.remove-b.new.self) (vec_items c.remove-a.new.self) p.low p.high c.remove-a.result c.remove-b.result
@@ -45,18 +45,18 @@ returns c =
     } in
     let a = c.remove-a.result in
     let b = c.remove-b.result in (
-      replaced c.args.choice p (record { tree = c.in-Some.tree; wire = c.joined-ends-wire.result; place = a.place }) e o
-          c.joined-ends-wire.ensures refl
-          (subst (λ (w : Way). Grown w (edge a).what (edge b).what (edge (record { tree = c.in-Some.tree; wire = c.joined-ends-wire.result; place = a.place })).what) c.way-of.ensures c.in-Some.ensures.0)
-          c.put-at.ensures.items,
-      omega (arith, c.put-at.ensures.len, c.remove-a.ensures.len, c.remove-b.ensures.len),
+      replaced c.args.choice p (record { tree = c.in-Some.tree; wire = c.joined_ends-wire.result; place = a.place }) e o
+          c.joined_ends-wire.ensures refl
+          (subst (λ (w : Way). Grown w (edge a).what (edge b).what (edge (record { tree = c.in-Some.tree; wire = c.joined_ends-wire.result; place = a.place })).what) c.way_of.ensures c.in-Some.ensures.0)
+          c.put_at.ensures.items,
+      omega (arith, c.put_at.ensures.len, c.remove-a.ensures.len, c.remove-b.ensures.len),
       c.in-Some.ensures.1,
     )
 
-pub returns-in-default : goal.returns-in-default
-returns-in-default c =
-    let p = c.pair-of-pair.result in
-    let e : p ≡ chosen_pair c.args.choice = c.pair-of-pair.ensures in
+pub returns-in_default : goal.returns-in_default
+returns-in_default c =
+    let p = c.pair_of-pair.result in
+    let e : p ≡ chosen_pair c.args.choice = c.pair_of-pair.ensures in
     let order : p.low < p.high = subst (λ (q : Pair). q.low < q.high) (sym e) c.requires.order in
     let within : p.high < vec_len c.args.branches.now = subst (λ (q : Pair). q.high < vec_len c.args.branches.now) (sym e) c.requires.within in
     let o : TakenOut (vec_items c.args.branches.now) (vec_items c.remove-b.new.self) (vec_items c.remove-a.new.self) p.low p.high c.remove-a.result c.remove-b.result
@@ -70,4 +70,4 @@ returns-in-default c =
     } in
     let a = c.remove-a.result in
     let b = c.remove-b.result in
-    halted c.args.choice p e o (subst (λ (w : Way). Parted w (reads (edge a).what) (reads (edge b).what) Number) c.way-of.ensures c.in-default.ensures)
+    halted c.args.choice p e o (subst (λ (w : Way). Parted w (reads (edge a).what) (reads (edge b).what) Number) c.way_of.ensures c.in_default.ensures)

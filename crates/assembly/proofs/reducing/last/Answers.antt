@@ -11,14 +11,14 @@ returns-then-len-ne1 c = λ m w.
     let n : length (vec_items c.args.branches) ≡ 1 = sym b ∙ a in
     omega (arith, n, c.args.branches.ok.0, c.len.ensures, c.if-len-ne1.true)
 
-pub returns-then-not-same-ends : goal.returns-then-not-same-ends
-returns-then-not-same-ends c =
+pub returns-then-not-same_ends : goal.returns-then-not-same_ends
+returns-then-not-same_ends c =
     let bs = vec_items c.args.branches in
     let n : length bs ≡ 1 = omega (arith, c.args.branches.ok.0, c.len.ensures, c.if-len-ne1.false) in
-    not_whole bs c.remove-tree.result c.args.port (one_left bs c.remove-tree.result n c.remove-tree.ensures.value) (sym c.same-ends.ensures ∙ c.if-not-same-ends.true)
+    not_whole bs c.remove-tree.result c.args.port (one_left bs c.remove-tree.result n c.remove-tree.ensures.value) (sym c.same_ends.ensures ∙ c.if-not-same_ends.true)
 
 pub returns : goal.returns
 returns c =
     let bs = vec_items c.args.branches in
     let n : length bs ≡ 1 = omega (arith, c.args.branches.ok.0, c.len.ensures, c.if-len-ne1.false) in
-    record { last = edge c.remove-tree.result; alone = one_left bs c.remove-tree.result n c.remove-tree.ensures.value; ends = sym c.same-ends.ensures ∙ c.if-not-same-ends.false; is = refl }
+    record { last = edge c.remove-tree.result; alone = one_left bs c.remove-tree.result n c.remove-tree.ensures.value; ends = sym c.same_ends.ensures ∙ c.if-not-same_ends.false; is = refl }
