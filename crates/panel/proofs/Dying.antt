@@ -1,7 +1,7 @@
 -- A round in which anything is heard absorbs, so it is a busy one.
-use Rattle.std.proofs.Common.{◌≡◌, ℕ, zero, suc, ◌+◌, ◌<◌, ◌≤◌, min, List, [], ◌∷◌, ℤ, pos, negsuc, Ok, Err, refl, arith}
+use Rattle.std.proofs.Common.{◌≡◌, ℕ, zero, suc, ◌+◌, ◌<◌, ◌≤◌, min, List, ℤ, pos, negsuc, Ok, Err, arith}
 use Rattle.wave.specs.declared.ratios.lowest.Ratio.{Ratio}
-use Rattle.rig.specs.Runs.{Event, Step, Run, of_round, sum, busy}
+use Rattle.rig.specs.Runs.{Event, Step, Run, of_round, busy}
 use Rattle.rig.specs.Runs.Event.{feed, raise, answer, withdraw, clear, turn}
 use Rattle.rig.specs.Runs.Run.{done, next}
 use Rattle.rig.specs.Energy.{RunsDown}
