@@ -2,8 +2,9 @@ ghost use Rattle.std.specs.Prelude.{◌≡◌, ◌*◌, ◌≤◌, ℤ, pos, ◌
 ghost use Rattle.wave.specs.Numbers.{largest_wave};
 ghost use Rattle.wave.specs.Refusals.{NoWeight};
 ghost use Rattle.closing.specs.Kinds.{source_answers, source_offers, short_answers, fold, diode_answers, stiff_answers};
+ghost use Rattle.closing.specs.Lawful.{short_lawful, short_bounded, diode_lawful, diode_bounded, stiff_lawful};
 ghost use Rattle.closing.specs.Sources.{source_holds, source_wave, source_within};
-ghost use Rattle.std.proofs.Common.{mul-zero, rules};
+ghost use Rattle.std.proofs.Common.{mul-zero};
 ghost use Rattle.wave.proofs.Losses.{energy_most, held_most};
 
 use crate::meaning::{BoundedClosing, Closing};
@@ -92,7 +93,7 @@ impl BoundedClosing for Source {
 impl Closing for Short {
     ghost answers = { short_answers };
 
-    ghost lawful = { Prim.search rules };
+    ghost lawful = { short_lawful };
 
     fn answer(&self, r: i32, e: i32, ratio: Ratio) -> Wave {
         Wave::hold(r).negated()
@@ -102,7 +103,7 @@ impl Closing for Short {
 impl BoundedClosing for Short {
     ghost offers = { λ _ _. 0 };
 
-    ghost bounded = { Prim.search rules };
+    ghost bounded = { short_bounded };
 
     fn offer(&self, e: i32) -> u64 {
         0
@@ -112,7 +113,7 @@ impl BoundedClosing for Short {
 impl Closing for Diode {
     ghost answers = { diode_answers };
 
-    ghost lawful = { Prim.search rules };
+    ghost lawful = { diode_lawful };
 
     fn answer(&self, r: i32, e: i32, ratio: Ratio) -> Wave {
         folded(Wave::hold(r))
@@ -122,7 +123,7 @@ impl Closing for Diode {
 impl BoundedClosing for Diode {
     ghost offers = { λ _ _. 0 };
 
-    ghost bounded = { Prim.search rules };
+    ghost bounded = { diode_bounded };
 
     fn offer(&self, e: i32) -> u64 {
         0
@@ -132,7 +133,7 @@ impl BoundedClosing for Diode {
 impl Closing for Stiff {
     ghost answers = { stiff_answers };
 
-    ghost lawful = { Prim.search rules };
+    ghost lawful = { stiff_lawful };
 
     fn answer(&self, r: i32, e: i32, ratio: Ratio) -> Wave {
         shorten(doubled(Wave::hold(r), Wave::hold(e)) as i64, Divisor::ONE).wave
