@@ -3,7 +3,7 @@ ghost use Rattle.wave.specs.Refusals.{NoWeight};
 ghost use Rattle.weights.specs.Limits.{Sized};
 ghost use Rattle.assembly.specs.Limits.{most_branches};
 ghost use Rattle.assembly.specs.Branches.{edges};
-ghost use Rattle.assembly.specs.Beginnings.{BodyIs, hears, weight_of_element as weightOf, Begins, Outside, Unweighable, EarIs};
+ghost use Rattle.assembly.specs.Beginnings.{BodyIs, hears, weight_of_element, Begins, Outside, Unweighable, EarIs};
 ghost use Rattle.assembly.specs.Inner.{Fit, LeafIs, AllSized};
 
 use crate::branches::Branch;
@@ -19,8 +19,8 @@ use weights::{Scale, Size, weight_of};
 // The weight of an element, none where it is outside.
 fn weighed(element: &Element, scale: Scale) -> Option<u32>
     ensures { MatchOption result
-        (Sized element.now.value → Outside (weightOf scale.rate scale.unit element.now))
-        (λ w. (w ≡ weightOf scale.rate scale.unit element.now) × (Outside w → ⊥)) }
+        (Sized element.now.value → Outside (weight_of_element scale.rate scale.unit element.now))
+        (λ w. (w ≡ weight_of_element scale.rate scale.unit element.now) × (Outside w → ⊥)) }
 {
     let Some(size) = Size::new(element.value) else {
         return None;
@@ -54,7 +54,7 @@ fn body_of(kind: Kind, weight: u32, ear: bool) -> Result<Body, WeightRefusal>
 // An element as a leaf at rest, none where its weight is outside.
 fn leaf_of(element: &Element, index: u32, ear: bool, scale: Scale) -> Option<Leaf>
     ensures { MatchOption result
-        (Sized element.now.value → Outside (weightOf scale.rate scale.unit element.now))
+        (Sized element.now.value → Outside (weight_of_element scale.rate scale.unit element.now))
         (LeafIs scale.rate scale.unit index ear element.now) }
 {
     let Some(weight) = weighed(element, scale) else {

@@ -6,10 +6,10 @@ ghost use Rattle.adaptor.specs.declared.joints.JoinRefusal.TheVariants.{Number};
 ghost use Rattle.tree.specs.Models.{reads, Model as ModelIs};
 ghost use Rattle.tree.specs.Growth.{Grown};
 ghost use Rattle.tree.specs.Trees.{model};
-ghost use Rattle.net.specs.Choices.{Stuck, chosen_pair as pair_of};
+ghost use Rattle.net.specs.Choices.{Stuck, chosen_pair};
 ghost use Rattle.net.specs.Reductions.{Steps, EndsOver, Whole, wires};
-ghost use Rattle.assembly.specs.Branches.{edges, way_for as way_of, Joins, Refused};
-ghost use Rattle.assembly.specs.Inner.{ends_after_join as joinedEnds, Fit, Replaced, Halted};
+ghost use Rattle.assembly.specs.Branches.{edges, way_for, Joins, Refused};
+ghost use Rattle.assembly.specs.Inner.{ends_after_join, Fit, Replaced, Halted};
 
 use crate::branches::Branch;
 use adaptor::Way;
@@ -17,7 +17,7 @@ use net::{Choice, Pair, Wire, choose};
 use tree::{Apart, ListingTree, Room};
 
 fn pair_of(choice: Choice) -> Pair
-    ensures { result ≡ pair_of choice }
+    ensures { result ≡ chosen_pair choice }
 {
     match choice {
         Choice::Twins(pair) => pair,
@@ -26,7 +26,7 @@ fn pair_of(choice: Choice) -> Pair
 }
 
 fn way_of(choice: Choice) -> Way
-    ensures { result ≡ way_of choice }
+    ensures { result ≡ way_for choice }
 {
     match choice {
         Choice::Twins(_) => Way::Parallel,
@@ -36,7 +36,7 @@ fn way_of(choice: Choice) -> Way
 
 // The ends of what two branches become.
 fn joined_ends(choice: Choice, low: Wire, high: Wire) -> Wire
-    ensures { result ≡ joinedEnds choice low high }
+    ensures { result ≡ ends_after_join choice low high }
 {
     match choice {
         Choice::Twins(_) => low,
@@ -80,8 +80,8 @@ fn put_at(branches: &mut Vec<Branch>, at: usize, branch: Branch)
 // Joins the two branches of a choice: the lower one becomes both, where it stands. Refused by the place of the lower one.
 fn join_at(room: &mut Room, branches: &mut Vec<Branch>, choice: Choice) -> Result<(), usize>
     requires boxes { 2 ≤ vec_len room.old.boxes }
-    requires order { (pair_of choice).low < (pair_of choice).high }
-    requires within { (pair_of choice).high < vec_len branches.old }
+    requires order { (chosen_pair choice).low < (chosen_pair choice).high }
+    requires within { (chosen_pair choice).high < vec_len branches.old }
     requires fit { Fit (edges branches.old.items) }
     ensures { MatchResult result
         (λ _. Replaced choice (edges branches.old.items) (edges branches.new.items)

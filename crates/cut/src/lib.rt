@@ -3,7 +3,7 @@
 
 ghost use Rattle.std.specs.Prelude.{◌≡◌, ◌+◌, ◌-◌, ◌<◌, ◌≤◌, [], length, MatchOption};
 ghost use Rattle.fixed.specs.Held.{held};
-ghost use Rattle.cut.specs.Cuts.{blank, bytes, stop as stopOf, LineTo, AllBlank, FieldAt, FirstFields};
+ghost use Rattle.cut.specs.Cuts.{blank, bytes, stop as stop_of, LineTo, AllBlank, FieldAt, FirstFields};
 
 use fixed::Fixed;
 
@@ -73,8 +73,8 @@ fn next_field(text: &[u8], from: usize, end: usize) -> Option<Span>
 
 // The first fields of a line, and of a longer line the first five; none of a line that is not in the text.
 pub fn fields_of(text: &[u8], line: Span) -> Fixed<Span, 5>
-    ensures within { stopOf line ≤ length text.now → FirstFields text.now line.place (stopOf line) (held result) }
-    ensures beyond { length text.now < stopOf line → held result ≡ [] }
+    ensures within { stop_of line ≤ length text.now → FirstFields text.now line.place (stop_of line) (held result) }
+    ensures beyond { length text.now < stop_of line → held result ≡ [] }
 {
     let mut found = Fixed::new(line);
     if line.len > text.len() || line.place > text.len() - line.len {

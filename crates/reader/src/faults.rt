@@ -1,6 +1,6 @@
 // The faults of one line.
 ghost use Rattle.std.specs.Prelude.{◌≡◌, ◌+◌, ◌-◌, ◌<◌, ◌≤◌, true, length, Some, None, MatchResult};
-ghost use Rattle.cut.specs.Cuts.{bytes, stop as stopOf};
+ghost use Rattle.cut.specs.Cuts.{bytes, stop as stop_of};
 ghost use Rattle.reader.specs.Limits.{most_elements};
 ghost use Rattle.refusals.specs.Order.{Least};
 ghost use Rattle.reader.specs.Lines.{nth};
@@ -16,8 +16,8 @@ use refusals::{Fault, Rule, sooner};
 use values::{Wrong, value_of};
 
 fn long_fault(line: Span) -> Option<Fault>
-    requires { stopOf line < 18446744073709551616 }
-    ensures { Least (LongFault line.place (stopOf line)) result }
+    requires { stop_of line < 18446744073709551616 }
+    ensures { Least (LongFault line.place (stop_of line)) result }
 {
     if line.len > LARGEST_LINE {
         Some(Fault {
@@ -128,8 +128,8 @@ pub(crate) fn plain_fault(
     elements: &[Element],
     ported: bool,
 ) -> Option<Fault>
-    requires { stopOf line ≤ length text.now }
-    ensures { Least (PlainFault text.now line.place (stopOf line) fields.now kind (Among (λ e. e.name) text.now elements.now (bytes text.now (nth fields.now 0))) (most_elements ≤ length elements.now) (ported ≡ true)) result }
+    requires { stop_of line ≤ length text.now }
+    ensures { Least (PlainFault text.now line.place (stop_of line) fields.now kind (Among (λ e. e.name) text.now elements.now (bytes text.now (nth fields.now 0))) (most_elements ≤ length elements.now) (ported ≡ true)) result }
 {
     let missing = missing_fault(line.place + line.len, kind, fields.len());
     let name = name_fault(text, kind, fields, elements, ported);

@@ -1,6 +1,6 @@
 // Reads a listing line by line.
 ghost use Rattle.std.specs.Prelude.{◌+◌, ◌-◌, ◌<◌, ◌≤◌, length, MatchResult};
-ghost use Rattle.cut.specs.Cuts.{stop as stopOf};
+ghost use Rattle.cut.specs.Cuts.{stop as stop_of};
 ghost use Rattle.fixed.specs.Held.{held};
 ghost use Rattle.reader.specs.Inner.{NextStart, StatementIs};
 ghost use Rattle.reader.specs.Answers.{Reads, Refuses, Only};
@@ -26,8 +26,8 @@ fn statement(
     ported: bool,
     nodes: &mut Fixed<Node, MOST_NODES>,
 ) -> Result<Statement, Fault>
-    requires { stopOf line ≤ length text.now }
-    ensures { StatementIs text.now line.place (stopOf line) closed elements.now ported (held nodes.old) (held nodes.new) result }
+    requires { stop_of line ≤ length text.now }
+    ensures { StatementIs text.now line.place (stop_of line) closed elements.now ported (held nodes.old) (held nodes.new) result }
 {
     let found = fields_of(text, line);
     let fields = found.as_slice();

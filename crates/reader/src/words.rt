@@ -2,7 +2,7 @@
 ghost use Rattle.std.specs.Prelude.{◌≡◌, ◌-◌, ◌<◌, Decides};
 ghost use Rattle.cut.specs.Cuts.{bytes};
 ghost use Rattle.refusals.specs.Order.{Least};
-ghost use Rattle.reader.specs.Lines.{kind_of, closing, kind_of_line, past as pastEnd, width as fieldCount};
+ghost use Rattle.reader.specs.Lines.{kind_of, closing, kind_of_line, past as past_end, width as field_count};
 ghost use Rattle.reader.specs.Faults.{NameForm, FieldFormFault};
 ghost use Rattle.reader.specs.Inner.{standing};
 ghost use Rattle.reader.specs.Words.{WordIs};
@@ -15,7 +15,7 @@ use values::Kind;
 impl LineKind {
     // How many fields such a line has at least.
     pub(crate) fn width(self) -> usize
-        ensures { result ≡ fieldCount self }
+        ensures { result ≡ field_count self }
     {
         match self {
             LineKind::Passed | LineKind::Strange => 0,
@@ -27,7 +27,7 @@ impl LineKind {
 
     // What such a line is past .end.
     fn past_end(self) -> LineKind
-        ensures { result ≡ pastEnd self }
+        ensures { result ≡ past_end self }
     {
         if let LineKind::Passed = self {
             LineKind::Passed

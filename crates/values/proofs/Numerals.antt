@@ -2,7 +2,7 @@
 use Rattle.std.proofs.Common.{◌≡◌, ℕ, zero, suc, ◌+◌, ◌*◌, ◌^◌, ◌<◌, ◌≤◌, true, ◌⊎◌, List, [], ◌∷◌, ◌++◌, length, get_or, take, drop, Some, None, Option, sym, refl, ap, ◌∙◌, subst, ⊎_elim, pow-suc, add-one, arith, take-append-drop, length-take-le, get_or-take}
 use native.Mathlib.Nat.{pow-le-pow_right}
 use lib.Seq.{take-append_seam, drop-append_seam}
-use Rattle.std.specs.Char.{is_ascii_digit as asciiDigit}
+use Rattle.std.specs.Char.{is_ascii_digit}
 use Rattle.std.specs.List.{prefix_len}
 use Rattle.std.proofs.lemmas.Bool.{cases_order, cond-true, cond-false, cases_Bool}
 use Rattle.std.proofs.lemmas.Bool.Decides.{nat_tests}
@@ -12,7 +12,7 @@ use Rattle.values.specs.declared.Wrong.TheVariants.{Form, Range}
 use Rattle.values.specs.Values.{decimal, factors, looked, Valued, ValueFault, InRange}
 use Rattle.values.proofs.Tables.{factor_stops}
 
-pub digit_range : (c : ℕ) → asciiDigit c ≡ true → (48 ≤ c) × (c ≤ 57)
+pub digit_range : (c : ℕ) → is_ascii_digit c ≡ true → (48 ≤ c) × (c ≤ 57)
 digit_range c h = (grind (arith, nat_tests), grind (arith, nat_tests))
 
 pub ten_more : (n i d : ℕ) → n < 10 ^ i → d < 10 → n * 10 + d < 10 ^ (i + 1)
@@ -21,22 +21,22 @@ ten_more n i d h l = rw (add-one, pow-suc) (omega arith)
 pub six_digits : (n i : ℕ) → i ≤ 6 → n < 10 ^ i → n < 1000000
 six_digits n i l h = let z : 0 < 10 = omega arith in let m : 10 ^ i ≤ 10 ^ 6 = pow-le-pow_right z l in omega arith
 
-pub leading_append : (ds ss : List ℕ) → ((k : ℕ) → k < length ds → asciiDigit (get_or ds k 0) ≡ true) → prefix_len asciiDigit ss ≡ 0 → prefix_len asciiDigit (ds ++ ss) ≡ length ds
+pub leading_append : (ds ss : List ℕ) → ((k : ℕ) → k < length ds → is_ascii_digit (get_or ds k 0) ≡ true) → prefix_len is_ascii_digit ss ≡ 0 → prefix_len is_ascii_digit (ds ++ ss) ≡ length ds
 leading_append [] ss h e = e
 leading_append (d ∷ ds) ss h e =
-    cond-true (asciiDigit d) _ _ (h 0 (omega arith)) ∙ (let r = leading_append ds ss (λ k l. h (suc k) (omega arith)) e in omega arith)
+    cond-true (is_ascii_digit d) _ _ (h 0 (omega arith)) ∙ (let r = leading_append ds ss (λ k l. h (suc k) (omega arith)) e in omega arith)
 
-pub leading_each : (xs : List ℕ) (k : ℕ) → k < prefix_len asciiDigit xs → asciiDigit (get_or xs k 0) ≡ true
+pub leading_each : (xs : List ℕ) (k : ℕ) → k < prefix_len is_ascii_digit xs → is_ascii_digit (get_or xs k 0) ≡ true
 leading_each [] k l = absurd (omega arith)
-leading_each (x ∷ xs) zero l = ⊎_elim (λ y. y) (λ y. let z = cond-false (asciiDigit x) (1 + prefix_len asciiDigit xs) 0 y in absurd (omega arith)) (cases_Bool (asciiDigit x))
+leading_each (x ∷ xs) zero l = ⊎_elim (λ y. y) (λ y. let z = cond-false (is_ascii_digit x) (1 + prefix_len is_ascii_digit xs) 0 y in absurd (omega arith)) (cases_Bool (is_ascii_digit x))
 leading_each (x ∷ xs) (suc k) l =
     ⊎_elim
-    (λ y. let z = cond-true (asciiDigit x) (1 + prefix_len asciiDigit xs) 0 y in leading_each xs k (omega arith))
-    (λ y. let z = cond-false (asciiDigit x) (1 + prefix_len asciiDigit xs) 0 y in absurd (omega arith))
-    (cases_Bool (asciiDigit x))
+    (λ y. let z = cond-true (is_ascii_digit x) (1 + prefix_len is_ascii_digit xs) 0 y in leading_each xs k (omega arith))
+    (λ y. let z = cond-false (is_ascii_digit x) (1 + prefix_len is_ascii_digit xs) 0 y in absurd (omega arith))
+    (cases_Bool (is_ascii_digit x))
 
 abbrev pub many : List ℕ → ℕ
-many bs = prefix_len asciiDigit bs
+many bs = prefix_len is_ascii_digit bs
 
 module _ (s : Kind) (bs : List ℕ) where
   -- the digits of a value are those at the front of the word
@@ -82,7 +82,7 @@ module _ (s : Kind) (bs : List ℕ) where
         split = sym ((λ i. x i ++ y i) ∙ take-append-drop n bs);
         some = omega (arith, l);
         few = omega (arith, l);
-        each = λ j m. ap (λ xs. asciiDigit (get_or xs j 0)) x ∙ ap asciiDigit (get_or-take n bs j 0 (omega (arith, l))) ∙ leading_each bs j (omega (arith, l, e));
+        each = λ j m. ap (λ xs. is_ascii_digit (get_or xs j 0)) x ∙ ap is_ascii_digit (get_or-take n bs j 0 (omega (arith, l))) ∙ leading_each bs j (omega (arith, l, e));
         scale = sym scale;
         count = ap (λ v. v * f) count;
       }
