@@ -1,7 +1,6 @@
 -- From what the parts of assembling answer to what it answers.
 use Rattle.std.proofs.Common.{◌≡◌, ℕ, ◌<◌, true, false, List, length, get_or, is_some, Some, None, Option, sym, ap, ◌∙◌, subst, inl, inr, zero-le, arith}
 use Rattle.std.proofs.lemmas.Bool.Decides.{leb_tells}
-use Rattle.fixed.specs.Held.{held}
 use Rattle.reader.specs.Answers as reader
 use Rattle.reader.specs.declared.Element.{Element}
 use Rattle.reader.specs.declared.Listing.{Listing}
@@ -25,7 +24,7 @@ pub moved : (P : ℕ → ℕ → List Element → Wire → Type 0) {r r' u u' : 
 moved P {r} {r'} {u} {u'} {l} {l'} {w} {w'} a b c d x =
     subst (λ (y : Wire). P r' u' l' y) d (subst (λ (y : List Element). P r' u' y w) c (subst (λ (y : ℕ). P r' y l w) b (subst (λ (y : ℕ). P y u l w) a x)))
 
-pub refused : (t name : List ℕ) (rate unit : ℕ) (d : Listing) (ear : Option ℕ) (f : AssemblyFault) → reader.Reads t d → Scaled rate unit → EarIs t (held d.elements) name ear → Ungrown rate unit ear (held d.elements) (port_of d) f → Refuses t rate unit name f
+pub refused : (t name : List ℕ) (rate unit : ℕ) (d : Listing) (ear : Option ℕ) (f : AssemblyFault) → reader.Reads t d → Scaled rate unit → EarIs t d.elements name ear → Ungrown rate unit ear d.elements (port_of d) f → Refuses t rate unit name f
 refused t name rate unit d ear (Reading g) r s e u = absurd u
 refused t name rate unit d ear OutOfRange r s e u = absurd u
 refused t name rate unit d ear (BadWeight p) r s e u = (d, r, s, u (all_sized t d r))

@@ -1,9 +1,6 @@
 -- What a reader's answer says of the values and the number of elements.
-use Rattle.std.proofs.Common.{ℕ, ◌<◌, ◌≤◌, List, length, get_or, refl, inl, inr, zero-le, arith}
-use Rattle.std.proofs.lemmas.List.{length-take}
+use Rattle.std.proofs.Common.{ℕ, ◌<◌, List, length, get_or, refl, inl, inr, zero-le, arith}
 use Rattle.std.proofs.lemmas.Bool.Decides.{leb_tells}
-use Rattle.fixed.specs.Held.{held}
-use Rattle.fixed.specs.declared.room.Fixed.{Fixed}
 use Rattle.values.specs.Values.{InRange}
 use Rattle.values.specs.declared.Wrong.TheVariants.{Range}
 use Rattle.reader.specs.Lines.{nth}
@@ -36,8 +33,5 @@ in_range t ns es p w k d h =
       | inr x ↦ absurd (bad (λ r. omega (arith, r.0, x.1)))
     ]
 
-pub all_sized : (t : List ℕ) (l : Listing) → Reads t l → AllSized (held l.elements)
-all_sized t l r k d lo hi = in_range t (held l.nodes) (held l.elements) l.port r k d hi
-
-pub few : (f : Fixed Element 32) → length (held f) ≤ 32
-few f = let n = length-take f.len f.room in omega (arith, n, f.within)
+pub all_sized : (t : List ℕ) (l : Listing) → Reads t l → AllSized l.elements
+all_sized t l r k d lo hi = in_range t l.nodes l.elements l.port r k d hi

@@ -1,6 +1,5 @@
 -- What assembling answers to a text, a rate in hertz, a unit in nanosiemens and the name of the resistor with the ear.
 use Rattle.std.specs.Prelude.{◌≡◌, ℕ, List, Option}
-use Rattle.fixed.specs.Held.{held}
 use Rattle.reader.specs.Answers as reader
 use Rattle.refusals.specs.Refusals.{told}
 use Rattle.reader.specs.declared.Listing.{Listing}
@@ -32,8 +31,8 @@ pub record Begun (t : List ℕ) (rate unit : ℕ) (name : List ℕ) (d : Listing
   pub read : reader.Reads t d
   pub scaled : Scaled rate unit
   pub ear : Option ℕ
-  pub eared : EarIs t (held d.elements) name ear
-  pub begins : Begins rate unit ear (held d.elements) bs
+  pub eared : EarIs t d.elements name ear
+  pub begins : Begins rate unit ear d.elements bs
 
 -- the tree m is what the branches of the text come down to, and the name of the ear fits
 pub record Accepts (t : List ℕ) (rate unit : ℕ) (name : List ℕ) (m : Model) (a : Assembled) : Type 0 where
@@ -41,7 +40,7 @@ pub record Accepts (t : List ℕ) (rate unit : ℕ) (name : List ℕ) (m : Model
   pub branches : List (Edge Model)
   pub begun : Begun t rate unit name listing branches
   pub down : EndsDown Joins Refused (port_of listing) branches m
-  pub ear : Earless t (held listing.elements) name → ⊥
+  pub ear : Earless t listing.elements name → ⊥
   pub num : a.num ≡ (reads m).num
   pub den : a.den ≡ (reads m).den
   pub elements : a.elements ≡ (reads m).size
@@ -50,10 +49,10 @@ pub record Accepts (t : List ℕ) (rate unit : ℕ) (name : List ℕ) (m : Model
 abbrev pub Refuses : List ℕ → ℕ → ℕ → List ℕ → AssemblyFault → Type 0
 Refuses t rate unit name (Reading f) = reader.Refuses t f
 Refuses t rate unit name OutOfRange = (d : Listing) × reader.Reads t d × (Scaled rate unit → ⊥)
-Refuses t rate unit name (BadWeight p) = (d : Listing) × reader.Reads t d × Scaled rate unit × Unweighable rate unit (held d.elements) p
+Refuses t rate unit name (BadWeight p) = (d : Listing) × reader.Reads t d × Scaled rate unit × Unweighable rate unit d.elements p
 Refuses t rate unit name (TooLarge p) = (d : Listing) × (bs : List (Edge Model)) × Begun t rate unit name d bs × EndsOver Joins Refused (port_of d) bs p
 Refuses t rate unit name Irreducible = (d : Listing) × (bs : List (Edge Model)) × Begun t rate unit name d bs × EndsLeft Joins Refused (port_of d) bs
-Refuses t rate unit name NoEar = (d : Listing) × (bs : List (Edge Model)) × (m : Model) × Begun t rate unit name d bs × EndsDown Joins Refused (port_of d) bs m × Earless t (held d.elements) name
+Refuses t rate unit name NoEar = (d : Listing) × (bs : List (Edge Model)) × (m : Model) × Begun t rate unit name d bs × EndsDown Joins Refused (port_of d) bs m × Earless t d.elements name
 
 -- the steps lead to one answer only, whatever the branches and the port
 abbrev pub OneEnd : Type 0

@@ -2,7 +2,6 @@
 #![tactic(auto)]
 
 ghost use Rattle.std.specs.Prelude.{◌≡◌, ◌+◌, ◌-◌, ◌<◌, ◌≤◌, [], length, MatchOption};
-ghost use Rattle.fixed.specs.Held.{held};
 ghost use Rattle.cut.specs.Cuts.{blank, bytes, stop as stop_of, LineTo, AllBlank, FieldAt, FirstFields};
 
 use fixed::Fixed;
@@ -73,8 +72,8 @@ fn next_field(text: &[u8], from: usize, end: usize) -> Option<Span>
 
 // The first fields of a line, and of a longer line the first five; none of a line that is not in the text.
 pub fn fields_of(text: &[u8], line: Span) -> Fixed<Span, 5>
-    ensures within { stop_of line ≤ length text.now → FirstFields text.now line.place (stop_of line) (held result) }
-    ensures beyond { length text.now < stop_of line → held result ≡ [] }
+    ensures within { stop_of line ≤ length text.now → FirstFields text.now line.place (stop_of line) result }
+    ensures beyond { length text.now < stop_of line → result ≡ [] }
 {
     let mut found = Fixed::new(line);
     if line.len > text.len() || line.place > text.len() - line.len {
@@ -83,7 +82,7 @@ pub fn fields_of(text: &[u8], line: Span) -> Fixed<Span, 5>
     let end = line.place + line.len;
     let mut from = line.place;
     while let Some(field) = next_field(text, from, end) {
-        found.push(field);
+        let _ = found.push(field);
         from = field.place + field.len;
     }
     found

@@ -1,17 +1,20 @@
 // Room for at most N items, with no allocation.
 #![tactic(auto)]
 
-ghost use Rattle.std.specs.Prelude.{◌≡◌, ◌+◌, ◌<◌, [], ◌∷◌, ◌++◌, length, take, Decides};
-ghost use Rattle.fixed.specs.Held.{held};
+ghost use Rattle.std.specs.Prelude.{◌≡◌, ◌<◌, ◌≤◌, [], ◌∷◌, ◌++◌, length, take, MatchResult};
 
 mod room;
 
 pub use room::Fixed;
 
+/// There was no room for one more item.
+#[derive(Clone, Copy, Debug, PartialEq)]
+pub struct Full;
+
 impl<T: Copy, const N: usize> Fixed<T, N> {
     // No items. The filler stands in the places that hold none.
     pub fn new(filler: T) -> Fixed<T, N>
-        ensures items { held result ≡ [] }
+        ensures items { result ≡ [] }
     {
         Fixed {
             room: [filler; N],
@@ -20,21 +23,22 @@ impl<T: Copy, const N: usize> Fixed<T, N> {
     }
 
     pub fn as_slice(&self) -> &[T]
-        ensures items { result.now ≡ held self.now }
+        ensures items { result.now ≡ self.now }
+        ensures few { length result.now ≤ N }
     {
         &self.room[..self.len]
     }
 
-    // Adds an item at the end if there is room for it, and tells whether there was.
-    pub fn push(&mut self, item: T) -> bool
-        ensures room { Decides result (length (held self.old) < N) }
-        ensures items { held self.new ≡ take N (held self.old ++ item ∷ []) }
+    // Adds an item at the end, if there is room for it.
+    pub fn push(&mut self, item: T) -> Result<(), Full>
+        ensures room { MatchResult result (λ _. length self.old < N) (λ _. N ≤ length self.old) }
+        ensures items { self.new ≡ take N (self.old ++ item ∷ []) }
     {
-        if self.as_slice().len() >= N {
-            return false;
+        if self.len == N {
+            return Err(Full);
         }
         self.room[self.len] = item;
         self.len += 1;
-        true
+        Ok(())
     }
 }

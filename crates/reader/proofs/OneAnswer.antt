@@ -12,7 +12,6 @@ use Rattle.reader.specs.declared.Node.{Node}
 use Rattle.reader.specs.declared.Element.{Element}
 use Rattle.refusals.specs.declared.Fault.{Fault}
 use Rattle.reader.specs.declared.Listing.{Listing}
-use Rattle.fixed.specs.Held.{held}
 use Rattle.reader.specs.declared.PortRecord.{PortRecord}
 use Rattle.refusals.specs.Refusals.{number}
 use Rattle.reader.specs.Lines.{nth, Line, PartLine, PortLine}
@@ -69,10 +68,10 @@ module _ (t : List ℕ) where
   -- two readings are one
   one_reading : (d d' : Listing) → Reads t d → Reads t d' → SameAnswer (Ok d) (Ok d')
   one_reading d d' a b =
-      let ns = held d'.nodes in
-      let n = nodes_once t (length t) (held d.nodes) ns a.nodes b.nodes in (
+      let ns = d'.nodes in
+      let n = nodes_once t (length t) d.nodes ns a.nodes b.nodes in (
         n,
-        records_once (PartLine t) (ElementIs t ns) (λ e. e.name.place) t (length t) (element_once t ns) (held d.elements) (held d'.elements) (subst (λ m. Elements t (length t) m (held d.elements)) n a.elements) b.elements,
+        records_once (PartLine t) (ElementIs t ns) (λ e. e.name.place) t (length t) (element_once t ns) d.elements d'.elements (subst (λ m. Elements t (length t) m d.elements) n a.elements) b.elements,
         first_item d.port d'.port (records_once (PortLine t) (PortIs t ns) (λ p. p.name.place) t (length t) (port_once t ns) (d.port ∷ []) (d'.port ∷ []) (subst (λ m. Ports t (length t) m (d.port ∷ [])) n a.port) b.port),
       )
 

@@ -2,7 +2,6 @@
 use Rattle.std.proofs.Common.{◌≡◌, ℕ, ◌<◌, ◌≤◌, List, [], ◌∷◌, ◌++◌, map, length, get_or, take, Some, None, sym, refl, ap, ◌∙◌, subst, inl, inr, ⊎_elim, arith, take_all}
 use Rattle.std.specs.Char.{to_ascii_lowercase}
 use Rattle.std.specs.List.{HoldsAt, AllWithin}
-use Rattle.std.proofs.lemmas.Bool.{cases_lt}
 use Rattle.std.proofs.lemmas.List.{get_or_append_left, get_or_default, get_or_push, length_push}
 use Rattle.cut.specs.Cuts.{bytes}
 use Rattle.cut.specs.declared.Span.{Span}
@@ -69,9 +68,6 @@ module _ (kd : LineKind) (fs : List Span) (s : Kind) (U F P : Type 0) (is : kd �
 
   pub name_none : (U → ⊥) → (F → ⊥) → Least (NameFault kd fs U F P) None
   name_none n m = subst (λ k. Least (NameFault k fs U F P) None) (sym is) (λ p r x. ⊎_elim (λ y. n y.0) (λ y. m y.0) x.1.1)
-
-pub no_room : (m n : ℕ) → (m < n → ⊥) → n ≤ m
-no_room m n full = ⊎_elim (λ l. absurd (full l)) (λ l. l) (cases_lt m n)
 
 -- a name is found among the nodes, or is entered at their end
 module _ (t : List ℕ) (ns : List Node) (s : Span) (xs : List Node) (bs : List ℕ) (same : xs ≡ ns) (e : bs ≡ bytes t s) where

@@ -1,6 +1,5 @@
 -- The answer to a text: its records, or its first fault.
 use Rattle.std.specs.Prelude.{◌≡◌, ℕ, List, [], ◌∷◌, length, Some, None, Ok, Err, Result, MatchResult}
-use Rattle.fixed.specs.Held.{held}
 use Rattle.refusals.specs.declared.Fault.{Fault}
 use Rattle.reader.specs.declared.Node.{Node}
 use Rattle.reader.specs.declared.Element.{Element}
@@ -12,10 +11,10 @@ use Rattle.reader.specs.Faults.{FaultAt}
 
 -- the nodes, the elements and the port of a listing
 abbrev pub nodes_of : Listing → List Node
-nodes_of d = held d.nodes
+nodes_of d = d.nodes
 
 abbrev pub elements_of : Listing → List Element
-elements_of d = held d.elements
+elements_of d = d.elements
 
 abbrev pub port_of : Listing → PortRecord
 port_of d = d.port

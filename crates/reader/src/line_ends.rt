@@ -1,7 +1,6 @@
 // The two ends of a line, each a node by its number.
 ghost use Rattle.std.specs.Prelude.{◌-◌, ◌<◌, ◌≤◌, length, Some, None, Decides, MatchResult};
 ghost use Rattle.cut.specs.Cuts.{bytes};
-ghost use Rattle.fixed.specs.Held.{held};
 ghost use Rattle.names.specs.Alike.{Alike};
 ghost use Rattle.refusals.specs.Order.{Least};
 ghost use Rattle.reader.specs.Lines.{nth, Carries};
@@ -41,9 +40,9 @@ pub(crate) fn ends_of(
 ) -> Result<Option<Ends>, Fault>
     requires { 2 < length fields.now → (nth fields.now 1).place ≤ (nth fields.now 2).place }
     ensures { MatchResult result
-        (λ e. Least (EndsFault text.now kind fields.now (CrowdedFirst text.now (held nodes.old) fields.now) (CrowdedSecond text.now (held nodes.old) fields.now)) None
-        × EndsAre text.now kind fields.now (held nodes.old) (held nodes.new) e)
-        (λ f. Least (EndsFault text.now kind fields.now (CrowdedFirst text.now (held nodes.old) fields.now) (CrowdedSecond text.now (held nodes.old) fields.now)) (Some f)) }
+        (λ e. Least (EndsFault text.now kind fields.now (CrowdedFirst text.now nodes.old fields.now) (CrowdedSecond text.now nodes.old fields.now)) None
+        × EndsAre text.now kind fields.now nodes.old nodes.new e)
+        (λ f. Least (EndsFault text.now kind fields.now (CrowdedFirst text.now nodes.old fields.now) (CrowdedSecond text.now nodes.old fields.now)) (Some f)) }
 {
     if !kind.carries() || fields.len() < 2 {
         return Ok(None);

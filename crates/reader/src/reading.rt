@@ -1,7 +1,6 @@
 // Reads a listing line by line.
 ghost use Rattle.std.specs.Prelude.{◌+◌, ◌-◌, ◌<◌, ◌≤◌, length, MatchResult};
 ghost use Rattle.cut.specs.Cuts.{stop as stop_of};
-ghost use Rattle.fixed.specs.Held.{held};
 ghost use Rattle.reader.specs.Inner.{NextStart, StatementIs};
 ghost use Rattle.reader.specs.Answers.{Reads, Refuses, Only};
 
@@ -27,7 +26,7 @@ fn statement(
     nodes: &mut Fixed<Node, MOST_NODES>,
 ) -> Result<Statement, Fault>
     requires { stop_of line ≤ length text.now }
-    ensures { StatementIs text.now line.place (stop_of line) closed elements.now ported (held nodes.old) (held nodes.new) result }
+    ensures { StatementIs text.now line.place (stop_of line) closed elements.now ported nodes.old nodes.new result }
 {
     let found = fields_of(text, line);
     let fields = found.as_slice();
@@ -111,7 +110,7 @@ pub fn read(text: &[u8]) -> Result<Listing, Fault>
             Err(fault) => return Err(fault),
         };
         if let Statement::Adds(element) = said {
-            elements.push(element);
+            let _ = elements.push(element);
         } else if let Statement::Opens(record) = said {
             port = Some(record);
         } else if let Statement::Closes = said {

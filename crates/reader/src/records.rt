@@ -1,7 +1,6 @@
 // The records of a listing by their names, and the nodes as they are entered.
 ghost use Rattle.std.specs.Prelude.{◌-◌, ◌<◌, ◌≤◌, length, MatchOption};
 ghost use Rattle.cut.specs.Cuts.{bytes};
-ghost use Rattle.fixed.specs.Held.{held};
 ghost use Rattle.reader.specs.Limits.{most_nodes};
 ghost use Rattle.reader.specs.Records.{Among, NumberIs};
 ghost use Rattle.reader.specs.Inner.{Entered};
@@ -34,18 +33,17 @@ pub(crate) fn enter(
     name: Span,
 ) -> Option<NodeNumber>
     ensures { MatchOption result
-        ((most_nodes ≤ length (held nodes.old)) × (Among (λ n. n.name) text.now (held nodes.old) (bytes text.now name) → ⊥))
-        (λ i. Entered text.now (held nodes.old) name (held nodes.new)
-        × NumberIs text.now (held nodes.new) name i.index
-        × (most_nodes ≤ length (held nodes.old) → (Among (λ n. n.name) text.now (held nodes.old) (bytes text.now name) → ⊥) → ⊥)) }
+        ((most_nodes ≤ length nodes.old) × (Among (λ n. n.name) text.now nodes.old (bytes text.now name) → ⊥))
+        (λ i. Entered text.now nodes.old name nodes.new
+        × NumberIs text.now nodes.new name i.index
+        × (most_nodes ≤ length nodes.old → (Among (λ n. n.name) text.now nodes.old (bytes text.now name) → ⊥) → ⊥)) }
 {
     if let Some(index) = find(nodes.as_slice(), text, name.of(text)) {
         return Some(NodeNumber { index });
     }
     let index = nodes.as_slice().len();
-    if nodes.push(Node { name }) {
-        Some(NodeNumber { index })
-    } else {
-        None
+    match nodes.push(Node { name }) {
+        Ok(()) => Some(NodeNumber { index }),
+        Err(_) => None,
     }
 }

@@ -1,5 +1,4 @@
 use Rattle.std.proofs.Common.{◌≡◌, ◌-◌, ◌≤◌, List, ◌++◌, take}
-use Rattle.fixed.specs.Held.{held}
 use Rattle.cut.specs.declared.Span.{Span}
 use Rattle.cut.specs.Cuts.{FieldsIn}
 use Rattle.cut.proofs.fields_of.Given as goal
@@ -8,7 +7,7 @@ use Rattle.cut.proofs.fields_of.Given as goal
 abbrev pub invariant-loop-field : goal.invariant-loop-field
 invariant-loop-field l =
     (l.from ≤ l.end)
-    × ((passed : List Span) × (held l.found ≡ take 5 passed) × ((rest : List Span) → FieldsIn l.text l.from l.end rest → FieldsIn l.text l.initial.from l.end (passed ++ rest)))
+    × ((passed : List Span) × (l.found ≡ take 5 passed) × ((rest : List Span) → FieldsIn l.text l.from l.end rest → FieldsIn l.text l.initial.from l.end (passed ++ rest)))
 
 abbrev pub decreases-loop-field : goal.decreases-loop-field
 decreases-loop-field l = l.end - l.from

@@ -1,6 +1,5 @@
 use Rattle.std.proofs.Common.{◌≡◌, ℕ, ◌<◌, ◌≤◌, false, not, List, is_some, refl, ap, ◌∙◌, subst, arith}
 use Rattle.std.proofs.lemmas.Result.{err_from_is_err_and}
-use Rattle.fixed.specs.Held.{held}
 use Rattle.reader.specs.declared.Element.{Element}
 use Rattle.weights.specs.Limits.{Scaled}
 use Rattle.tree.specs.Trees.{model}
@@ -33,9 +32,9 @@ returns-in-Err c =
     let b = c.in-Some.ensures.1 in
     let scaled : Scaled rate unit = (subst (λ (x : ℕ). 0 < x) a s.fast.0, subst (λ (x : ℕ). x ≤ 192000) a s.fast.1, subst (λ (x : ℕ). 0 < x) b s.fine.0, subst (λ (x : ℕ). x ≤ 100000) b s.fine.1) in
     let ear = c.ear_of-at.result in
-    let eared : EarIs t (held d.elements) name ear = subst (λ (l : List Element). EarIs t l name ear) c.as_slice-elements.ensures.items c.ear_of-at.ensures in
+    let eared : EarIs t d.elements name ear = subst (λ (l : List Element). EarIs t l name ear) c.as_slice-elements.ensures.items c.ear_of-at.ensures in
     let wire : ◌≡◌ {A = Wire} (port_of d) (port_of d) = refl in
-    let u : Ungrown rate unit ear (held d.elements) (port_of d) c.in-Err.fault = moved (λ r u l w. Ungrown r u ear l w c.in-Err.fault) a b c.as_slice-elements.ensures.items wire c.in-Err.ensures in
+    let u : Ungrown rate unit ear d.elements (port_of d) c.in-Err.fault = moved (λ r u l w. Ungrown r u ear l w c.in-Err.fault) a b c.as_slice-elements.ensures.items wire c.in-Err.ensures in
     record { answer = (refused t name rate unit d ear c.in-Err.fault read scaled eared u, refl); only = one_end }
 
 pub returns-then-ear-gt0 : goal.returns-then-ear-gt0
@@ -51,9 +50,9 @@ returns-then-ear-gt0 c =
     let b = c.in-Some.ensures.1 in
     let scaled : Scaled rate unit = (subst (λ (x : ℕ). 0 < x) a s.fast.0, subst (λ (x : ℕ). x ≤ 192000) a s.fast.1, subst (λ (x : ℕ). 0 < x) b s.fine.0, subst (λ (x : ℕ). x ≤ 100000) b s.fine.1) in
     let ear = c.ear_of-at.result in
-    let eared : EarIs t (held d.elements) name ear = subst (λ (l : List Element). EarIs t l name ear) c.as_slice-elements.ensures.items c.ear_of-at.ensures in
+    let eared : EarIs t d.elements name ear = subst (λ (l : List Element). EarIs t l name ear) c.as_slice-elements.ensures.items c.ear_of-at.ensures in
     let wire : ◌≡◌ {A = Wire} (port_of d) (port_of d) = refl in
-    let g : GrownFrom rate unit ear (held d.elements) (port_of d) (model c.in-Ok.tree.tree) = moved (λ r u l w. GrownFrom r u ear l w (model c.in-Ok.tree.tree)) a b c.as_slice-elements.ensures.items wire c.in-Ok.ensures in
+    let g : GrownFrom rate unit ear d.elements (port_of d) (model c.in-Ok.tree.tree) = moved (λ r u l w. GrownFrom r u ear l w (model c.in-Ok.tree.tree)) a b c.as_slice-elements.ensures.items wire c.in-Ok.ensures in
     let none : is_some ear ≡ false = c.is_none.ensures ∙ ap not c.if-is_none.true in
     record {
       answer = (
@@ -63,7 +62,7 @@ returns-then-ear-gt0 c =
           model c.in-Ok.tree.tree,
           record { read = read; scaled = scaled; ear = ear; eared = eared; begins = g.begins },
           g.down,
-          no_ear t (held d.elements) name ear eared none (omega (arith, c.if-ear-gt0.true)),
+          no_ear t d.elements name ear eared none (omega (arith, c.if-ear-gt0.true)),
         ),
         refl,
       );
@@ -83,12 +82,12 @@ returns c =
     let b = c.in-Some.ensures.1 in
     let scaled : Scaled rate unit = (subst (λ (x : ℕ). 0 < x) a s.fast.0, subst (λ (x : ℕ). x ≤ 192000) a s.fast.1, subst (λ (x : ℕ). 0 < x) b s.fine.0, subst (λ (x : ℕ). x ≤ 100000) b s.fine.1) in
     let ear = c.ear_of-at.result in
-    let eared : EarIs t (held d.elements) name ear = subst (λ (l : List Element). EarIs t l name ear) c.as_slice-elements.ensures.items c.ear_of-at.ensures in
+    let eared : EarIs t d.elements name ear = subst (λ (l : List Element). EarIs t l name ear) c.as_slice-elements.ensures.items c.ear_of-at.ensures in
     let wire : ◌≡◌ {A = Wire} (port_of d) (port_of d) = refl in
-    let g : GrownFrom rate unit ear (held d.elements) (port_of d) (model c.in-Ok.tree.tree) = moved (λ r u l w. GrownFrom r u ear l w (model c.in-Ok.tree.tree)) a b c.as_slice-elements.ensures.items wire c.in-Ok.ensures in
-    let fits : Earless t (held d.elements) name → ⊥ = elim c.else-is_none.branch [
+    let g : GrownFrom rate unit ear d.elements (port_of d) (model c.in-Ok.tree.tree) = moved (λ r u l w. GrownFrom r u ear l w (model c.in-Ok.tree.tree)) a b c.as_slice-elements.ensures.items wire c.in-Ok.ensures in
+    let fits : Earless t d.elements name → ⊥ = elim c.else-is_none.branch [
       | else-is_none-via-then-is_none+else-ear-gt0 w ↦ λ e. omega (arith, e.0, w.if-ear-gt0.false)
-      | else-is_none-via-else-is_none w ↦ has_ear t (held d.elements) name ear eared (c.is_none.ensures ∙ ap not w.if-is_none.false)
+      | else-is_none-via-else-is_none w ↦ has_ear t d.elements name ear eared (c.is_none.ensures ∙ ap not w.if-is_none.false)
     ] in
     record {
       answer = record {

@@ -1,6 +1,5 @@
-use Rattle.std.proofs.Common.{ℕ, ◌+◌, ◌-◌, ◌<◌, length, is_some, Some, None, sym, ap, ◌∙◌, subst, arith, rules}
+use Rattle.std.proofs.Common.{ℕ, ◌+◌, ◌-◌, ◌<◌, length, is_some, Some, None, sym, ◌∙◌, subst, arith, rules}
 use Rattle.std.proofs.lemmas.Bool.Decides.{nat_tests}
-use Rattle.fixed.specs.Held.{held}
 use Rattle.refusals.specs.Order.{Least}
 use Rattle.reader.specs.Lines.{kind_of_line}
 use Rattle.reader.specs.Answers.{Refuses}
@@ -16,7 +15,7 @@ abbrev past_line : In-Ok → ℕ
 past_line c = c.loop-start.start + (c.line_end-end.result - c.loop-start.start)
 
 -- the line has no fault
-none : (c : In-Ok) → Least (ReaderFault c.args.text.now c.loop-start.start (past_line c) c.loop-start.closed (held c.loop-start.elements) (is_some c.loop-start.port) (held c.loop-start.nodes) c.in-Ok.ensures.0) None
+none : (c : In-Ok) → Least (ReaderFault c.args.text.now c.loop-start.start (past_line c) c.loop-start.closed c.loop-start.elements (is_some c.loop-start.port) c.loop-start.nodes c.in-Ok.ensures.0) None
 none c = same_reader _ _ _ _ _ _ _ _ _ _ None c.as_slice.ensures.items c.is_some.ensures c.in-Ok.ensures.2.0
 
 pub returns-then-is_empty : goal.returns-then-is_empty
@@ -44,13 +43,13 @@ loop-start-preserved c =
     let b = past_line (goal.at.loop-start-preserved c).In-Ok in
     let line = span_line _ _ _ (c.line_end-end.ensures.within (omega arith)) in
     let next = span_next _ _ _ _ (c.line_end-end.ensures.within (omega arith)).low c.next_start-start.ensures in
-    let ns' = held c.statement.new.nodes in
+    let ns' = c.statement.new.nodes in
     let K = standing c.loop-start.start c.loop-start.closed (kind_of_line t x.0) in
     elim c.match-said.branch [
-      | in-Adds w ↦ sofar_at t q ns' (sym w.closed-is) (sym (ap held w.elements-is ∙ w.push.ensures.items ∙ fits _ w.in-Adds.element (room_left port inv on b x.0 line x.1 quiet _ (subst (Says t K x.0 (held c.loop-start.nodes) ns') w.in-Adds.is x.2.1).0))) (sym w.port-is) (line_adds port inv on b x.0 line x.1 quiet q next ns' w.in-Adds.element (subst (Says t K x.0 (held c.loop-start.nodes) ns') w.in-Adds.is x.2.1))
-      | in_default+in-Opens w ↦ sofar_at t q ns' (sym w.closed-is) (sym (ap held w.elements-is)) (sym w.port-is) (line_opens port inv on b x.0 line x.1 quiet q next ns' w.in-Opens.record (subst (Says t K x.0 (held c.loop-start.nodes) ns') w.in-Opens.is x.2.1))
-      | in_default+in_default-said+in-Closes w ↦ sofar_at t q ns' (sym w.closed-is) (sym (ap held w.elements-is)) (sym w.port-is) (line_closes port inv on b x.0 line x.1 quiet q next ns' (subst (Says t K x.0 (held c.loop-start.nodes) ns') w.in-Closes.is x.2.1))
-      | in_default+in_default-said+in_default-said-2 w ↦ sofar_at t q ns' (sym w.closed-is) (sym (ap held w.elements-is)) (sym w.port-is) (line_passes port inv on b x.0 line x.1 quiet q next ns' (subst (Says t K x.0 (held c.loop-start.nodes) ns') (only_passes c.in-Ok.said w.in_default.not-Adds w.in_default-said.not-Opens w.in_default-said-2.not-Closes) x.2.1))
+      | in-Adds w ↦ sofar_at t q ns' (sym w.closed-is) (sym (w.elements-is ∙ w.push.ensures.items ∙ fits _ w.in-Adds.element (room_left port inv on b x.0 line x.1 quiet _ (subst (Says t K x.0 c.loop-start.nodes ns') w.in-Adds.is x.2.1).0))) (sym w.port-is) (line_adds port inv on b x.0 line x.1 quiet q next ns' w.in-Adds.element (subst (Says t K x.0 c.loop-start.nodes ns') w.in-Adds.is x.2.1))
+      | in_default+in-Opens w ↦ sofar_at t q ns' (sym w.closed-is) (sym w.elements-is) (sym w.port-is) (line_opens port inv on b x.0 line x.1 quiet q next ns' w.in-Opens.record (subst (Says t K x.0 c.loop-start.nodes ns') w.in-Opens.is x.2.1))
+      | in_default+in_default-said+in-Closes w ↦ sofar_at t q ns' (sym w.closed-is) (sym w.elements-is) (sym w.port-is) (line_closes port inv on b x.0 line x.1 quiet q next ns' (subst (Says t K x.0 c.loop-start.nodes ns') w.in-Closes.is x.2.1))
+      | in_default+in_default-said+in_default-said-2 w ↦ sofar_at t q ns' (sym w.closed-is) (sym w.elements-is) (sym w.port-is) (line_passes port inv on b x.0 line x.1 quiet q next ns' (subst (Says t K x.0 c.loop-start.nodes ns') (only_passes c.in-Ok.said w.in_default.not-Adds w.in_default-said.not-Opens w.in_default-said-2.not-Closes) x.2.1))
     ]
 
 pub returns-in_default-port : goal.returns-in_default-port

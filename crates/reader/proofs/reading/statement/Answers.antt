@@ -3,7 +3,6 @@ use Rattle.values.specs.Values.{Valued}
 use Rattle.values.specs.declared.Kind.{Kind}
 use Rattle.reader.specs.declared.LineKind.TheVariants.{Part, Port}
 use Rattle.reader.specs.declared.Ends.{Ends}
-use Rattle.fixed.specs.Held.{held}
 use Rattle.cut.specs.Cuts.{bytes, stop, FirstFields}
 use Rattle.refusals.specs.declared.Fault.{Fault}
 use Rattle.reader.proofs.Saying.{FewFault, ok_says, stands_few, first_fault, reader_least, value_sure, ends_sure, ends_there, value_there, part_says, port_says, ends_kept}
@@ -14,7 +13,7 @@ use Rattle.reader.specs.Lines.{nth, kind_of_line, Carries}
 use Rattle.reader.specs.Inner.{standing, ReaderFault, BothEnds, EndsAre}
 
 -- the fields of the line, of which the first five are at hand
-cutting : (c : After-sooner-2) → FirstFields c.args.text.now c.args.line.place (stop c.args.line) (held c.fields_of-found.result)
+cutting : (c : After-sooner-2) → FirstFields c.args.text.now c.args.line.place (stop c.args.line) c.fields_of-found.result
 cutting c = c.fields_of-found.ensures.within c.requires
 
 same : (c : After-sooner-2) → c.as_slice-fields.result.now ≡ take 5 (cutting c).0
@@ -24,19 +23,19 @@ stands : (c : After-sooner-2) → c.standing_as-kind.result ≡ standing c.args.
 stands c = c.standing_as-kind.ensures ∙ ap (standing c.args.line.place c.args.closed) c.line_kind.ensures
 
 abbrev Faulty : After-sooner-2 → Option Fault → Type 0
-Faulty c o = Least (FewFault c.args.text.now c.args.line.place (stop c.args.line) c.args.elements.now c.args.ported (held c.args.nodes.now) c.as_slice-fields.result.now c.standing_as-kind.result) o
+Faulty c o = Least (FewFault c.args.text.now c.args.line.place (stop c.args.line) c.args.elements.now c.args.ported c.args.nodes.now c.as_slice-fields.result.now c.standing_as-kind.result) o
 
 faulty : (c : After-sooner-2) → Faulty c c.sooner-2.result
 faulty c =
-    first_fault c.args.text.now c.args.line.place (stop c.args.line) c.args.closed c.args.elements.now c.args.ported (held c.args.nodes.now) c.as_slice-fields.result.now (cutting c).0 (cutting c).1 (same c) c.standing_as-kind.result (stands c)
+    first_fault c.args.text.now c.args.line.place (stop c.args.line) c.args.closed c.args.elements.now c.args.ported c.args.nodes.now c.as_slice-fields.result.now (cutting c).0 (cutting c).1 (same c) c.standing_as-kind.result (stands c)
     _ _ _ _ _ _ _ _ _ c.sooner-2.ensures c.sooner.ensures c.err.ensures.value c.err-2.ensures.value c.plain_fault-plain.ensures c.value_at-value.ensures c.ends_of-ends.ensures
 
-reported : (c : After-sooner-2) (o : Option Fault) → Faulty c o → Least (ReaderFault c.args.text.now c.args.line.place (stop c.args.line) c.args.closed c.args.elements.now c.args.ported (held c.args.nodes.now) (cutting c).0) o
-reported c o h = reader_least c.args.text.now c.args.line.place (stop c.args.line) c.args.closed c.args.elements.now c.args.ported (held c.args.nodes.now) c.as_slice-fields.result.now (cutting c).0 (cutting c).1 (same c) c.standing_as-kind.result (stands c) o h
+reported : (c : After-sooner-2) (o : Option Fault) → Faulty c o → Least (ReaderFault c.args.text.now c.args.line.place (stop c.args.line) c.args.closed c.args.elements.now c.args.ported c.args.nodes.now (cutting c).0) o
+reported c o h = reader_least c.args.text.now c.args.line.place (stop c.args.line) c.args.closed c.args.elements.now c.args.ported c.args.nodes.now c.as_slice-fields.result.now (cutting c).0 (cutting c).1 (same c) c.standing_as-kind.result (stands c) o h
 
 -- how the line stands
 standing_so : (c : After-sooner-2) → c.standing_as-kind.result ≡ standing c.args.line.place c.args.closed (kind_of_line c.args.text.now (cutting c).0)
-standing_so c = stands_few c.args.text.now c.args.line.place (stop c.args.line) c.args.closed c.args.elements.now c.args.ported (held c.args.nodes.now) c.as_slice-fields.result.now (cutting c).0 (cutting c).1 (same c) c.standing_as-kind.result (stands c)
+standing_so c = stands_few c.args.text.now c.args.line.place (stop c.args.line) c.args.closed c.args.elements.now c.args.ported c.args.nodes.now c.as_slice-fields.result.now (cutting c).0 (cutting c).1 (same c) c.standing_as-kind.result (stands c)
 
 pub returns-in-Some : goal.returns-in-Some
 returns-in-Some c =
@@ -46,30 +45,30 @@ returns-in-Some c =
 -- where the line has no fault
 module _ (c : After-sooner-2) (none : Faulty c None) where
   no_value_fault : is_ok c.value_at-value.result ≡ true
-  no_value_fault = value_sure c.args.text.now c.args.line.place (stop c.args.line) c.args.closed c.args.elements.now c.args.ported (held c.args.nodes.now) c.as_slice-fields.result.now (cutting c).0 (cutting c).1 (same c) c.standing_as-kind.result (stands c) none _ _ c.value_at-value.ensures
+  no_value_fault = value_sure c.args.text.now c.args.line.place (stop c.args.line) c.args.closed c.args.elements.now c.args.ported c.args.nodes.now c.as_slice-fields.result.now (cutting c).0 (cutting c).1 (same c) c.standing_as-kind.result (stands c) none _ _ c.value_at-value.ensures
 
   no_ends_fault : is_ok c.ends_of-ends.result ≡ true
-  no_ends_fault = ends_sure c.args.text.now c.args.line.place (stop c.args.line) c.args.closed c.args.elements.now c.args.ported (held c.args.nodes.now) c.as_slice-fields.result.now (cutting c).0 (cutting c).1 (same c) c.standing_as-kind.result (stands c) none _ _ c.ends_of-ends.ensures
+  no_ends_fault = ends_sure c.args.text.now c.args.line.place (stop c.args.line) c.args.closed c.args.elements.now c.args.ported c.args.nodes.now c.as_slice-fields.result.now (cutting c).0 (cutting c).1 (same c) c.standing_as-kind.result (stands c) none _ _ c.ends_of-ends.ensures
 
   some_value : (s : Kind) (o : Option ℕ) → c.standing_as-kind.result ≡ Part s → c.value_at-value.result ≡ Ok o → is_some o ≡ true
-  some_value s o k e = value_there c.args.text.now c.args.line.place (stop c.args.line) c.args.closed c.args.elements.now c.args.ported (held c.args.nodes.now) c.as_slice-fields.result.now (cutting c).0 (cutting c).1 (same c) c.standing_as-kind.result (stands c) none s o k (ok_says _ _ _ _ _ c.value_at-value.ensures e)
+  some_value s o k e = value_there c.args.text.now c.args.line.place (stop c.args.line) c.args.closed c.args.elements.now c.args.ported c.args.nodes.now c.as_slice-fields.result.now (cutting c).0 (cutting c).1 (same c) c.standing_as-kind.result (stands c) none s o k (ok_says _ _ _ _ _ c.value_at-value.ensures e)
 
   some_ends : (o : Option Ends) → Carries c.standing_as-kind.result → c.ends_of-ends.result ≡ Ok o → is_some o ≡ true
-  some_ends o k e = ends_there c.args.text.now c.args.line.place (stop c.args.line) c.args.closed c.args.elements.now c.args.ported (held c.args.nodes.now) c.as_slice-fields.result.now (cutting c).0 (cutting c).1 (same c) c.standing_as-kind.result (stands c) none _ o k (ok_says _ _ _ _ _ c.ends_of-ends.ensures e)
+  some_ends o k e = ends_there c.args.text.now c.args.line.place (stop c.args.line) c.args.closed c.args.elements.now c.args.ported c.args.nodes.now c.as_slice-fields.result.now (cutting c).0 (cutting c).1 (same c) c.standing_as-kind.result (stands c) none _ o k (ok_says _ _ _ _ _ c.ends_of-ends.ensures e)
 
-  kept : (Carries c.standing_as-kind.result → ⊥) → held c.ends_of-ends.new.nodes ≡ held c.args.nodes.now
-  kept never = ends_kept c.args.text.now c.args.line.place (stop c.args.line) c.args.closed c.args.elements.now c.args.ported (held c.args.nodes.now) c.as_slice-fields.result.now (cutting c).0 (cutting c).1 (same c) c.standing_as-kind.result (stands c) none _ _ c.ends_of-ends.ensures never
+  kept : (Carries c.standing_as-kind.result → ⊥) → c.ends_of-ends.new.nodes ≡ c.args.nodes.now
+  kept never = ends_kept c.args.text.now c.args.line.place (stop c.args.line) c.args.closed c.args.elements.now c.args.ported c.args.nodes.now c.as_slice-fields.result.now (cutting c).0 (cutting c).1 (same c) c.standing_as-kind.result (stands c) none _ _ c.ends_of-ends.ensures never
 
-  two_ends : (o : Option Ends) (x : Ends) → c.ends_of-ends.result ≡ Ok o → o ≡ Some x → EndsAre c.args.text.now c.standing_as-kind.result c.as_slice-fields.result.now (held c.args.nodes.now) (held c.ends_of-ends.new.nodes) (Some x)
+  two_ends : (o : Option Ends) (x : Ends) → c.ends_of-ends.result ≡ Ok o → o ≡ Some x → EndsAre c.args.text.now c.standing_as-kind.result c.as_slice-fields.result.now c.args.nodes.now c.ends_of-ends.new.nodes (Some x)
   two_ends o x e f = ok_says _ _ _ _ _ c.ends_of-ends.ensures (e ∙ ap Ok f)
 
   part : (s : Kind) (x : Ends) (v : ℕ) (o : Option Ends) (w : Option ℕ) → c.standing_as-kind.result ≡ Part s → c.ends_of-ends.result ≡ Ok o → o ≡ Some x → c.value_at-value.result ≡ Ok w → w ≡ Some v
-      → (standing c.args.line.place c.args.closed (kind_of_line c.args.text.now (cutting c).0) ≡ Part s) × (nth c.as_slice-fields.result.now 0 ≡ nth (cutting c).0 0) × BothEnds c.args.text.now (cutting c).0 (held c.args.nodes.now) (held c.ends_of-ends.new.nodes) x × Valued s (bytes c.args.text.now (nth (cutting c).0 3)) v
-  part s x v o w k e f g h = part_says c.args.text.now c.args.line.place (stop c.args.line) c.args.closed c.args.elements.now c.args.ported (held c.args.nodes.now) c.as_slice-fields.result.now (cutting c).0 (cutting c).1 (same c) c.standing_as-kind.result (stands c) none s _ x v k (two_ends o x e f) (ok_says _ _ _ _ _ c.value_at-value.ensures (g ∙ ap Ok h))
+      → (standing c.args.line.place c.args.closed (kind_of_line c.args.text.now (cutting c).0) ≡ Part s) × (nth c.as_slice-fields.result.now 0 ≡ nth (cutting c).0 0) × BothEnds c.args.text.now (cutting c).0 c.args.nodes.now c.ends_of-ends.new.nodes x × Valued s (bytes c.args.text.now (nth (cutting c).0 3)) v
+  part s x v o w k e f g h = part_says c.args.text.now c.args.line.place (stop c.args.line) c.args.closed c.args.elements.now c.args.ported c.args.nodes.now c.as_slice-fields.result.now (cutting c).0 (cutting c).1 (same c) c.standing_as-kind.result (stands c) none s _ x v k (two_ends o x e f) (ok_says _ _ _ _ _ c.value_at-value.ensures (g ∙ ap Ok h))
 
   port : (x : Ends) (o : Option Ends) → c.standing_as-kind.result ≡ Port → c.ends_of-ends.result ≡ Ok o → o ≡ Some x
-      → (standing c.args.line.place c.args.closed (kind_of_line c.args.text.now (cutting c).0) ≡ Port) × (nth c.as_slice-fields.result.now 0 ≡ nth (cutting c).0 0) × BothEnds c.args.text.now (cutting c).0 (held c.args.nodes.now) (held c.ends_of-ends.new.nodes) x
-  port x o k e f = port_says c.args.text.now c.args.line.place (stop c.args.line) c.args.closed c.args.elements.now c.args.ported (held c.args.nodes.now) c.as_slice-fields.result.now (cutting c).0 (cutting c).1 (same c) c.standing_as-kind.result (stands c) none _ x k (two_ends o x e f)
+      → (standing c.args.line.place c.args.closed (kind_of_line c.args.text.now (cutting c).0) ≡ Port) × (nth c.as_slice-fields.result.now 0 ≡ nth (cutting c).0 0) × BothEnds c.args.text.now (cutting c).0 c.args.nodes.now c.ends_of-ends.new.nodes x
+  port x o k e f = port_says c.args.text.now c.args.line.place (stop c.args.line) c.args.closed c.args.elements.now c.args.ported c.args.nodes.now c.as_slice-fields.result.now (cutting c).0 (cutting c).1 (same c) c.standing_as-kind.result (stands c) none _ x k (two_ends o x e f)
 
 -- the line has no fault
 quiet : (c : In_default) → Faulty (goal.at.In_default c).After-sooner-2 None
