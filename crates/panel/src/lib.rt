@@ -2,17 +2,16 @@
 #![tactic(auto)]
 
 ghost use Rattle.std.specs.Prelude.{◌≡◌, ℕ, ℤ, None, codes, MatchResult};
-ghost use Rattle.port.specs.Meaning.{Readings};
 ghost use Rattle.closing.specs.Meaning.{Bounded};
 ghost use Rattle.rig.specs.Pages.{Fresh};
-ghost use Rattle.rig.specs.Energy.{NeverMakesEnergy, StaysWithinOffers, RunsDown, PagesTellTheTruth};
+ghost use Rattle.rig.specs.Energy.{Promises};
 ghost use Rattle.stream.specs.Pieces.{WhateverTheCuts};
 ghost use Rattle.tree.specs.Trees.{model};
 ghost use Rattle.assembly.specs.Assemblies.{Accepts, Refuses, row};
 ghost use Rattle.lines.specs.Texts.{line_of, Holds};
 ghost use Rattle.lines.specs.Words.{refusal_words};
 ghost use Rattle.panel.specs.Panels.{source_weight, panel_rate, panel_unit};
-ghost use Rattle.panel.specs.Tails.{tree_reads, tree_takes, tree_clears, TailDies};
+ghost use Rattle.panel.specs.Tails.{tree_port, TailDies};
 
 use assembly::{Assembled, AssemblyFault, Workspace, assemble};
 use closing::{Closing, Source};
@@ -23,13 +22,10 @@ use tree::ListingTree;
 /// A stream through the tree of a listing. Over a bounded closing its tail dies: in silence the rounds in which anything is heard number at most the
 /// energy stored when the silence began.
 pub fn listen<C: Closing>(tree: ListingTree, closing: C) -> Stream<ListingTree, C>
-    ensures made { (result.session.rig.port ≡ tree) × (result.session.rig.closing ≡ closing) × (result.session.rig.number ≡ 0) × Fresh (tree_reads tree).stored result.session.rig.tally × (result.low ≡ None) }
-    ensures energy { NeverMakesEnergy tree_reads tree_takes tree_clears C.Closing.answers result.session.rig }
-    ensures offers { (offers : C → ℤ → ℕ) → Bounded C.Closing.answers offers → StaysWithinOffers tree_reads tree_takes tree_clears C.Closing.answers offers result.session.rig }
-    ensures silences { (offers : C → ℤ → ℕ) → Bounded C.Closing.answers offers → RunsDown tree_reads tree_takes tree_clears C.Closing.answers result.session.rig }
-    ensures tails { (offers : C → ℤ → ℕ) → Bounded C.Closing.answers offers → TailDies C.Closing.answers result.session.rig }
-    ensures pages { PagesTellTheTruth tree_reads tree_takes tree_clears C.Closing.answers result.session.rig }
-    ensures cuts { WhateverTheCuts {P = ListingTree} {C = C} tree_reads tree_takes tree_clears C.Closing.answers }
+    ensures made { (result.session.rig.port ≡ tree) × (result.session.rig.closing ≡ closing) × (result.session.rig.number ≡ 0) × Fresh (tree_port.reads tree).stored result.session.rig.tally × (result.low ≡ None) }
+    ensures promises { Promises tree_port C.Closing result.session.rig }
+    ensures tails { (offers : C → ℤ → ℕ) → Bounded C.Closing.answers offers → TailDies C.Closing result.session.rig }
+    ensures cuts { WhateverTheCuts {P = ListingTree} {C = C} tree_port C.Closing }
 {
     Stream::new(tree, closing, 0)
 }

@@ -1,9 +1,8 @@
 -- Both balances of a report are fair.
 use Rattle.std.proofs.Common.{◌≡◌, ℕ, ◌+◌, ◌*◌, List, ◌∷◌, ◌++◌, ℤ, pos, ◌+ℤ◌, ◌*ℤ◌, ◌≤ℤ◌, Ok, Option, sym, ap, ◌∙◌, subst, ap₂, arith}
 use lib.IntN.{+ℤ_idr}
-use Rattle.wave.specs.declared.ratios.lowest.Ratio.{Ratio}
-use Rattle.port.specs.Meaning.{Readings}
-use Rattle.port.specs.declared.takings.Taken.{Taken}
+use Rattle.port.specs.declared.meaning.Port.{Ghosts as PortOf}
+use Rattle.closing.specs.declared.meaning.Closing.{Ghosts as ClosingOf}
 use Rattle.rig.specs.Energy.{NeverMakesEnergy}
 use Rattle.rig.specs.Runs.{Event, Run, of_round, of_clear, entries, absorbed, dropped, shortened, swing}
 use Rattle.rig.specs.Runs.Event.{clear}
@@ -56,19 +55,19 @@ weighs_of n d S T n' d' T' xs x w en ed eT s h = record {
   right = h.right ∙ ap₂ (λ a b. a +ℤ b) (ap (λ e. pos (e * S)) (sym ed)) (ap₂ (λ e t. pos e *ℤ t) (sym en) s.swings);
 }
 
-module _ {P C : Type 0} (reads : P → Readings) (takes : P → ℤ → Taken → P → Type 0) (clears : P → ℕ → P → Type 0) (answers : C → ℤ → ℤ → Ratio → ℤ) where
-  pub fair_of : (a z : Rig P C) (p : P) (n d S T : ℕ) (xs : List Event) (w : Weighing) → a.port ≡ p → n ≡ (reads p).num → d ≡ (reads p).den → S ≡ (reads p).stored → T ≡ (reads z.port).stored
-      → NeverMakesEnergy reads takes clears answers a → Run reads takes clears answers a xs z → Weighs n d S xs T w → Fair w
+module _ {P C : Type 0} (ports : PortOf P) (closings : ClosingOf C) where
+  pub fair_of : (a z : Rig P C) (p : P) (n d S T : ℕ) (xs : List Event) (w : Weighing) → a.port ≡ p → n ≡ (ports.reads p).num → d ≡ (ports.reads p).den → S ≡ (ports.reads p).stored → T ≡ (ports.reads z.port).stored
+      → NeverMakesEnergy ports closings a → Run ports closings a xs z → Weighs n d S xs T w → Fair w
   fair_of a z p n d S T xs w ep en ed eS eT E r W =
       let B = E xs z r in
-      let num : n ≡ (reads a.port).num = en ∙ ap (λ q. (reads q).num) (sym ep) in
-      let den : d ≡ (reads a.port).den = ed ∙ ap (λ q. (reads q).den) (sym ep) in
-      let start : S ≡ (reads a.port).stored = eS ∙ ap (λ q. (reads q).stored) (sym ep) in
-      let l : w.left ≡ (reads a.port).den * ((reads z.port).stored + (absorbed xs + dropped xs)) = W.left ∙ ap₂ (λ e t. e * (t + (absorbed xs + dropped xs))) den eT in
-      let v : w.right ≡ pos ((reads a.port).den * (reads a.port).stored) +ℤ pos (reads a.port).num *ℤ swing xs =
+      let num : n ≡ (ports.reads a.port).num = en ∙ ap (λ q. (ports.reads q).num) (sym ep) in
+      let den : d ≡ (ports.reads a.port).den = ed ∙ ap (λ q. (ports.reads q).den) (sym ep) in
+      let start : S ≡ (ports.reads a.port).stored = eS ∙ ap (λ q. (ports.reads q).stored) (sym ep) in
+      let l : w.left ≡ (ports.reads a.port).den * ((ports.reads z.port).stored + (absorbed xs + dropped xs)) = W.left ∙ ap₂ (λ e t. e * (t + (absorbed xs + dropped xs))) den eT in
+      let v : w.right ≡ pos ((ports.reads a.port).den * (ports.reads a.port).stored) +ℤ pos (ports.reads a.port).num *ℤ swing xs =
       W.right ∙ ap₂ (λ x y. x +ℤ y) (ap₂ (λ e t. pos (e * t)) den start) (ap (λ e. pos e *ℤ swing xs) num) in
       record {
-        most = subst (λ (t : ℤ). pos w.left ≤ℤ t) (sym v) (subst (λ (t : ℕ). pos t ≤ℤ (pos ((reads a.port).den * (reads a.port).stored) +ℤ pos (reads a.port).num *ℤ swing xs)) (sym l) B.most);
+        most = subst (λ (t : ℤ). pos w.left ≤ℤ t) (sym v) (subst (λ (t : ℕ). pos t ≤ℤ (pos ((ports.reads a.port).den * (ports.reads a.port).stored) +ℤ pos (ports.reads a.port).num *ℤ swing xs)) (sym l) B.most);
         exact = λ h. ap pos l ∙ B.exact (sym W.shortens ∙ h) ∙ sym v;
         only = λ h. W.shortens ∙ B.only (sym (ap pos l) ∙ h ∙ v);
       }

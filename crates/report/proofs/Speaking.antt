@@ -2,9 +2,8 @@
 use Rattle.std.proofs.Common.{◌≡◌, ℕ, suc, ◌+◌, ◌*◌, ◌/◌, ◌%◌, ◌<◌, ◌≤◌, min, Bool, true, false, cond, eqb, ◌⊎◌, List, [], ◌∷◌, ◌++◌, length, get_or, take, ℤ, pos, ◌+ℤ◌, Ok, Option, sym, refl, ap, ◌∙◌, subst, ap₂, arith, length-take}
 use Rattle.std.proofs.lemmas.Int.{ints}
 use Rattle.pcm.specs.Samples.{sample_wave}
-use Rattle.wave.specs.declared.ratios.lowest.Ratio.{Ratio}
-use Rattle.port.specs.Meaning.{Readings}
-use Rattle.port.specs.declared.takings.Taken.{Taken}
+use Rattle.port.specs.declared.meaning.Port.{Ghosts as PortOf}
+use Rattle.closing.specs.declared.meaning.Closing.{Ghosts as ClosingOf}
 use Rattle.rig.specs.Blocks.{waves_of}
 use Rattle.rig.proofs.Blocked.{run_more, waves_more, taken_two}
 use Rattle.rig.specs.Runs.{Event, Run, All, Feeds, of_round, of_clear, swing}
@@ -52,11 +51,11 @@ pub adds_round : (p q r : Account) (xs : List Event) (e : ℤ) (x : Round) (g : 
 adds_round p q r xs e x g a k =
     adds_more p q r xs _ _ _ _ _ _ a (round_comes e x g) k.entries k.absorbed (omega (arith, k.dropped)) k.shortened k.swing
 
-module _ {P C : Type 0} (reads : P → Readings) (takes : P → ℤ → Taken → P → Type 0) (clears : P → ℕ → P → Type 0) (answers : C → ℤ → ℤ → Ratio → ℤ) where
+module _ {P C : Type 0} (ports : PortOf P) (closings : ClosingOf C) where
   -- i samples are fed
   pub record Said (a : Rig P C) (samples : List ℕ) (p : Account) (i : ℕ) (x : Account) (b : Rig P C) : Type 0 where
     pub calls : List Event
-    pub run : Run reads takes clears answers a calls b
+    pub run : Run ports closings a calls b
     pub feeds : All (Feeds (λ e. Unit {0})) calls
     pub all : fed calls ≡ waves_of (take (2 * i) samples)
     pub adds : Adds p calls x
@@ -66,7 +65,7 @@ module _ {P C : Type 0} (reads : P → Readings) (takes : P → ℤ → Taken �
   said_start a samples p = record { calls = []; run = done; feeds = tt; all = refl; adds = adds_none p; count = omega arith }
 
   pub said_more : (a : Rig P C) (samples : List ℕ) (p : Account) (i : ℕ) (x : Account) (b : Rig P C) (r : Round) (g : Option Page) (c : Rig P C) (y : Account) → 2 * i + 1 < length samples
-      → Said a samples p i x b → Run reads takes clears answers b (feed (sample_wave (get_or samples (2 * i) 0) (get_or samples (2 * i + 1) 0)) (Ok r) ∷ turns g) c → CountsRound x r y
+      → Said a samples p i x b → Run ports closings b (feed (sample_wave (get_or samples (2 * i) 0) (get_or samples (2 * i + 1) 0)) (Ok r) ∷ turns g) c → CountsRound x r y
       → Said a samples p (i + 1) y c
   said_more a samples p i x b r g c y h s q k =
       let e = sample_wave (get_or samples (2 * i) 0) (get_or samples (2 * i + 1) 0) in
@@ -74,7 +73,7 @@ module _ {P C : Type 0} (reads : P → Readings) (takes : P → ℤ → Taken �
       let even : length (take (2 * i) samples) % 2 ≡ 0 = omega (arith, length-take (2 * i) samples) in
       record {
         calls = s.calls ++ l;
-        run = run_more reads takes clears answers s.run q;
+        run = run_more ports closings s.run q;
         feeds = all-++ (Feeds (λ e. Unit {0})) s.calls l s.feeds (round_feeds (λ e. Unit {0}) e r g tt);
         all = fed-++ s.calls l ∙ ap₂ (λ (u : List ℤ) (w : List ℤ). u ++ w) s.all (round_fed e r g) ∙ sym (ap waves_of (taken_two samples i h) ∙ waves_more (take (2 * i) samples) _ _ even);
         adds = adds_round p x y s.calls e r g s.adds k;
@@ -82,7 +81,7 @@ module _ {P C : Type 0} (reads : P → Readings) (takes : P → ℤ → Taken �
       }
 
   pub said_end : (a : Rig P C) (samples : List ℕ) (p : Account) (i : ℕ) (x : Account) (b : Rig P C) → Empty p → i ≡ length samples / 2 → Said a samples p i x b
-      → Spoken reads takes clears answers a samples x b
+      → Spoken ports closings a samples x b
   said_end a samples p i x b z h s =
       let t : waves_of (take (2 * i) samples) ≡ waves_of samples = ap (λ n. waves_of (take (2 * n) samples)) h ∙ waves_pairs samples in
       record {
@@ -99,7 +98,7 @@ module _ {P C : Type 0} (reads : P → Readings) (takes : P → ℤ → Taken �
   -- rounds of silence
   pub record Hushed (b : Rig P C) (p : Account) (s : Silence) (x : Account) (c : Rig P C) : Type 0 where
     pub calls : List Event
-    pub hush : Hush reads takes clears answers b calls s c
+    pub hush : Hush ports closings b calls s c
     pub adds : Adds p calls x
     pub busy_most : s.busy ≤ s.rounds
     pub idle_most : s.idle ≤ s.rounds
@@ -118,7 +117,7 @@ module _ {P C : Type 0} (reads : P → Readings) (takes : P → ℤ → Taken �
   cond_most false m n h = omega arith
 
   pub hushed_more : (b : Rig P C) (p : Account) (s : Silence) (x : Account) (c : Rig P C) (r : Round) (g : Option Page) (d : Rig P C) (t : Silence) (y : Account) → Hushed b p s x c
-      → Run reads takes clears answers c (feed (pos 0) (Ok r) ∷ turns g) d → CountsRound x r y → Longer s r t → Hushed b p t y d
+      → Run ports closings c (feed (pos 0) (Ok r) ∷ turns g) d → CountsRound x r y → Longer s r t → Hushed b p t y d
   hushed_more b p s x c r g d t y H q k L =
       let l = feed (pos 0) (Ok r) ∷ turns g in
       let ys = H.calls in
@@ -126,7 +125,7 @@ module _ {P C : Type 0} (reads : P → Readings) (takes : P → ℤ → Taken �
       record {
         calls = ys ++ l;
         hush = record {
-          run = run_more reads takes clears answers S.run q;
+          run = run_more ports closings S.run q;
           silent = all-++ (Feeds (λ e. e ≡ pos 0)) ys l S.silent (round_feeds (λ e. e ≡ pos 0) (pos 0) r g refl);
           rounds = omega (arith, L.rounds, S.rounds, sum-++ (λ x. of_round (λ z. 1) x + of_clear (λ z. 1) x) ys l, (round_comes (pos 0) r g).entered);
           busy = omega (arith, L.busy, S.busy, sum-++ (of_round (λ x. min 1 (x.shortened + x.absorbed))) ys l, round_busy (pos 0) r g);
@@ -138,5 +137,5 @@ module _ {P C : Type 0} (reads : P → Readings) (takes : P → ℤ → Taken �
       }
 
   pub hushed_end : (b : Rig P C) (p : Account) (s : Silence) (x : Account) (c : Rig P C) → s.rounds ≤ longest_silence → (s.rounds ≡ longest_silence) ⊎ (quiet ≤ s.idle) → Hushed b p s x c
-      → Rested reads takes clears answers b p s x c
+      → Rested ports closings b p s x c
   hushed_end b p s x c few o H = record { calls = H.calls; hush = H.hush; adds = H.adds; few = omega (arith, few, H.hush.rounds); over = o }

@@ -1,8 +1,7 @@
 -- What a report says of a recording.
-use Rattle.std.specs.Prelude.{◌≡◌, ℕ, ◌+◌, ◌*◌, ◌≤◌, min, cond, ◌⊎◌, List, [], ◌∷◌, ◌++◌, length, ℤ, pos, ◌+ℤ◌, ◌*ℤ◌, ◌≤ℤ◌, Ok, Err, Option, ◌==◌}
-use Rattle.wave.specs.declared.ratios.lowest.Ratio.{Ratio}
-use Rattle.port.specs.Meaning.{Readings}
-use Rattle.port.specs.declared.takings.Taken.{Taken}
+use Rattle.std.specs.Prelude.{◌≡◌, ℕ, ◌+◌, ◌*◌, ◌≤◌, min, cond, ◌⊎◌, List, [], ◌∷◌, ◌++◌, length, pos, ◌+ℤ◌, ◌*ℤ◌, ◌≤ℤ◌, Ok, Err, Option, ◌==◌}
+use Rattle.port.specs.declared.meaning.Port.{Ghosts as PortOf}
+use Rattle.closing.specs.declared.meaning.Closing.{Ghosts as ClosingOf}
 use Rattle.rig.specs.Blocks.{waves_of}
 use Rattle.rig.specs.Runs.{Event, Run, All, Feeds, entries, absorbed, dropped, shortened, swing, busy}
 use Rattle.rig.specs.Runs.Event.{feed, raise, answer, withdraw, clear, turn}
@@ -67,16 +66,16 @@ pub record Longer (s : Silence) (x : Round) (s' : Silence) : Type 0 where
   pub busy : s'.busy ≡ s.busy + min 1 (x.shortened + x.absorbed)
   pub idle : s'.idle ≡ cond (x.shortened + x.absorbed == 0) (s.idle + 1) 0
 
-module _ {P C : Type 0} (reads : P → Readings) (takes : P → ℤ → Taken → P → Type 0) (clears : P → ℕ → P → Type 0) (answers : C → ℤ → ℤ → Ratio → ℤ) where
+module _ {P C : Type 0} (ports : PortOf P) (closings : ClosingOf C) where
   -- the samples are fed one by one, with no other round
   pub record Speech (a : Rig P C) (samples : List ℕ) (xs : List Event) (b : Rig P C) : Type 0 where
-    pub run : Run reads takes clears answers a xs b
+    pub run : Run ports closings a xs b
     pub feeds : All (Feeds (λ e. Unit {0})) xs
     pub all : fed xs ≡ waves_of samples
 
   -- feeds of 0, until the filter is quiet or the longest silence is over
   pub record Hush (b : Rig P C) (ys : List Event) (s : Silence) (c : Rig P C) : Type 0 where
-    pub run : Run reads takes clears answers b ys c
+    pub run : Run ports closings b ys c
     pub silent : All (Feeds (λ e. e ≡ pos 0)) ys
     pub rounds : s.rounds ≡ entries ys
     pub busy : s.busy ≡ busy ys
@@ -114,9 +113,9 @@ module _ {P C : Type 0} (reads : P → Readings) (takes : P → ℤ → Taken �
     pub drop : ℕ
     pub page : Option Page
     pub ended : Rig P C
-    pub ends : Run reads takes clears answers rested (clear (Ok drop) ∷ turns page) ended
-    pub num : r.num ≡ (reads p).num
-    pub den : r.den ≡ (reads p).den
-    pub start : r.start ≡ (reads p).stored
-    pub first : Weighs r.num r.den r.start speech (reads spoken.port).stored r.spoken
-    pub last : Weighs r.num r.den r.start ((speech ++ hush) ++ (clear (Ok drop) ∷ turns page)) (reads ended.port).stored r.ended
+    pub ends : Run ports closings rested (clear (Ok drop) ∷ turns page) ended
+    pub num : r.num ≡ (ports.reads p).num
+    pub den : r.den ≡ (ports.reads p).den
+    pub start : r.start ≡ (ports.reads p).stored
+    pub first : Weighs r.num r.den r.start speech (ports.reads spoken.port).stored r.spoken
+    pub last : Weighs r.num r.den r.start ((speech ++ hush) ++ (clear (Ok drop) ∷ turns page)) (ports.reads ended.port).stored r.ended

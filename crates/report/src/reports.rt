@@ -44,7 +44,7 @@ pub struct Report {
 // Feeds the samples.
 fn speak<P: Port, C: Closing>(session: &mut Session<P, C>, samples: &[u8]) -> Account
     requires { length samples.now ≤ longest_recording }
-    ensures { Spoken P.Port.reads P.Port.takes P.Port.clears C.Closing.answers session.old.rig samples.now result session.new.rig }
+    ensures { Spoken P.Port C.Closing session.old.rig samples.now result session.new.rig }
 {
     let mut account = Account::empty();
     for i in 0..samples.len() / 2 {
@@ -81,7 +81,7 @@ impl Silence {
 // Feeds silence until the filter is quiet, or the longest silence is over.
 fn rest<P: Port, C: Closing>(session: &mut Session<P, C>, account: Account) -> (Silence, Account)
     requires { account.entries + longest_silence + 1 < 2 ^ 32 }
-    ensures { Rested P.Port.reads P.Port.takes P.Port.clears C.Closing.answers session.old.rig account result.0 result.1 session.new.rig }
+    ensures { Rested P.Port C.Closing session.old.rig account result.0 result.1 session.new.rig }
 {
     let mut account = account;
     let mut silence = Silence {
@@ -112,7 +112,7 @@ pub fn report_on<P: Port + Drop, C: BoundedClosing + Drop>(
     closing: C,
     samples: &[u8],
 ) -> Result<Report, TooLong>
-    ensures what { MatchResult result (λ x. (length samples.now ≤ longest_recording) × Reported P.Port.reads P.Port.takes P.Port.clears C.Closing.answers port closing samples.now x) (λ _. longest_recording < length samples.now) }
+    ensures what { MatchResult result (λ x. (length samples.now ≤ longest_recording) × Reported P.Port C.Closing port closing samples.now x) (λ _. longest_recording < length samples.now) }
     ensures spoken { IfOk result (λ x. Fair x.spoken) }
     ensures ended { IfOk result (λ x. Fair x.ended) }
     ensures silence { IfOk result (λ x. x.silence.busy ≤ x.spoken.stored) }

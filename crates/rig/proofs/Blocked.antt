@@ -2,9 +2,8 @@
 use Rattle.std.proofs.Common.{◌≡◌, ℕ, suc, ◌+◌, ◌*◌, ◌%◌, ◌<◌, ◌≤◌, false, List, [], ◌∷◌, ◌++◌, length, get_or, take, drop, set, ℤ, Ok, sym, refl, ap, ◌∙◌, subst, ap₂, append_assoc, arith, length-append, length-take, take_all, drop-cons}
 use Rattle.std.proofs.lemmas.List.{take_more, set_at}
 use Rattle.pcm.specs.Samples.{sample_wave, sample_bytes}
-use Rattle.wave.specs.declared.ratios.lowest.Ratio.{Ratio}
-use Rattle.port.specs.Meaning.{Readings}
-use Rattle.port.specs.declared.takings.Taken.{Taken}
+use Rattle.port.specs.declared.meaning.Port.{Ghosts as PortOf}
+use Rattle.closing.specs.declared.meaning.Closing.{Ghosts as ClosingOf}
 use Rattle.rig.specs.Runs.{Event, Run}
 use Rattle.rig.specs.Runs.Event.{feed}
 use Rattle.rig.specs.Runs.Run.{done, next}
@@ -47,8 +46,8 @@ written_two p s n x y e h =
     ap (λ (t : List ℕ). set t (n + 1) y) g ∙ set_at (p ++ (x ∷ [])) _ _ y (n + 1) l ∙ sym (append_assoc (p ++ (x ∷ [])) (y ∷ []) _)
     ∙ ap₂ (λ (t : List ℕ) m. t ++ drop m s) (append_assoc p (x ∷ []) (y ∷ [])) k
 
-module _ {P C : Type 0} (reads : P → Readings) (takes : P → ℤ → Taken → P → Type 0) (clears : P → ℕ → P → Type 0) (answers : C → ℤ → ℤ → Ratio → ℤ) where
-  pub run_more : {a b c : Rig P C} {xs ys : List Event} → Run reads takes clears answers a xs b → Run reads takes clears answers b ys c → Run reads takes clears answers a (xs ++ ys) c
+module _ {P C : Type 0} (ports : PortOf P) (closings : ClosingOf C) where
+  pub run_more : {a b c : Rig P C} {xs ys : List Event} → Run ports closings a xs b → Run ports closings b ys c → Run ports closings a (xs ++ ys) c
   run_more done q = q
   run_more (next x s r) q = next x s (run_more r q)
 
@@ -57,7 +56,7 @@ module _ {P C : Type 0} (reads : P → Readings) (takes : P → ℤ → Taken �
     pub rounds : List Round
     pub one_each : length rounds ≡ i
     pub waves : length (waves_of (take (2 * i) input)) ≡ i
-    pub run : Run reads takes clears answers a (feeds (waves_of (take (2 * i) input)) rounds) b
+    pub run : Run ports closings a (feeds (waves_of (take (2 * i) input)) rounds) b
     pub written : after ≡ heard_bytes rounds ++ drop (2 * i) before
     pub long : length (heard_bytes rounds) ≡ 2 * i
     pub idle : b.raised ≡ false
@@ -76,7 +75,7 @@ module _ {P C : Type 0} (reads : P → Readings) (takes : P → ℤ → Taken �
   }
 
   pub progress_step : (a : Rig P C) (input before : List ℕ) (i : ℕ) (b : Rig P C) (after out : List ℕ) (c : Rig P C) → 2 * i + 1 < length input → length input ≤ length before
-      → Progress a input before i b after → Passed reads takes clears answers b (sample_wave (get_or input (2 * i) 0) (get_or input (2 * i + 1) 0)) out c
+      → Progress a input before i b after → Passed ports closings b (sample_wave (get_or input (2 * i) 0) (get_or input (2 * i + 1) 0)) out c
       → Progress a input before (i + 1) c (set (set after (2 * i) (get_or out 0 0)) (2 * i + 1) (get_or out 1 0))
   progress_step a input before i b after out c h k G p =
       let low = get_or input (2 * i) 0 in
@@ -97,7 +96,7 @@ module _ {P C : Type 0} (reads : P → Readings) (takes : P → ℤ → Taken �
         rounds = G.rounds ++ (x ∷ []);
         one_each = omega (arith, length-append G.rounds (x ∷ []), G.one_each);
         waves = ap length w ∙ omega (arith, length-append ws (e ∷ []), G.waves);
-        run = subst (λ (l : List Event). Run reads takes clears answers a l c) (sym f) (run_more G.run p.run);
+        run = subst (λ (l : List Event). Run ports closings a l c) (sym f) (run_more G.run p.run);
         written = o ∙ written_two B before (2 * i) _ _ G.long (omega arith) ∙ ap₂ (λ (s : List ℕ) m. s ++ drop m before) (sym (heard_more G.rounds x)) n;
         long = ap length (heard_more G.rounds x) ∙ omega (arith, length-append B (sample_bytes x.heard), G.long);
         idle = p.idle;
@@ -105,12 +104,12 @@ module _ {P C : Type 0} (reads : P → Readings) (takes : P → ℤ → Taken �
       }
 
   pub progress_end : (a : Rig P C) (input before : List ℕ) (i : ℕ) (b : Rig P C) (after : List ℕ) → 2 * i ≡ length input → Progress a input before i b after
-      → Filtered reads takes clears answers a input before b after
+      → Filtered ports closings a input before b after
   progress_end a input before i b after h G =
       let t = take_all (2 * i) input (omega arith) in
       record {
         rounds = G.rounds;
         one_each = G.one_each ∙ sym G.waves ∙ ap (λ (s : List ℕ). length (waves_of s)) t;
-        run = subst (λ (s : List ℕ). Run reads takes clears answers a (feeds (waves_of s) G.rounds) b) t G.run;
+        run = subst (λ (s : List ℕ). Run ports closings a (feeds (waves_of s) G.rounds) b) t G.run;
         written = G.written ∙ ap (λ n. heard_bytes G.rounds ++ drop n before) h;
       }

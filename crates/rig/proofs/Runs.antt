@@ -3,7 +3,8 @@ use Rattle.std.proofs.Common.{◌≡◌, ℕ, ◌+◌, ◌*◌, List, [], ◌∷
 use Rattle.std.proofs.lemmas.Int.{ints}
 use Rattle.wave.specs.Numbers.{sq, held}
 use Rattle.wave.proofs.Losses.{held_same}
-use Rattle.wave.specs.declared.ratios.lowest.Ratio.{Ratio}
+use Rattle.port.specs.declared.meaning.Port.{Ghosts as PortOf}
+use Rattle.closing.specs.declared.meaning.Closing.{Ghosts as ClosingOf}
 use Rattle.port.specs.Meaning.{Readings, Laws, Fall}
 use Rattle.port.specs.declared.takings.Taken.{Taken}
 use Rattle.rig.specs.Steps.{Rounded, Emptied}
@@ -44,27 +45,27 @@ of_fall a f t b h F =
       loses = λ c. strict _ _ t.shortened (omega arith) (λ q. F.only (omega arith)) c;
     }
 
-module _ {P C : Type 0} (reads : P → Readings) (takes : P → ℤ → Taken → P → Type 0) (clears : P → ℕ → P → Type 0) (laws : Laws reads takes clears)
-    (answers : C → ℤ → ℤ → Ratio → ℤ) where
+module _ {P C : Type 0} (ports : PortOf P) (laws : Laws ports.reads ports.takes ports.clears)
+    (closings : ClosingOf C) where
   -- what a call keeps, by what it came to
   pub record Moved (a : Rig P C) (F R A c : ℕ) (b : Rig P C) : Type 0 where
-    pub balance : Balanced (reads a.port).num (reads a.port).den (reads a.port).stored F R A c (reads b.port).stored
-    pub num : (reads b.port).num ≡ (reads a.port).num
-    pub den : (reads b.port).den ≡ (reads a.port).den
+    pub balance : Balanced (ports.reads a.port).num (ports.reads a.port).den (ports.reads a.port).stored F R A c (ports.reads b.port).stored
+    pub num : (ports.reads b.port).num ≡ (ports.reads a.port).num
+    pub den : (ports.reads b.port).den ≡ (ports.reads a.port).den
     pub closing : b.closing ≡ a.closing
 
   idle : (a b : Rig P C) → b.port ≡ a.port → b.closing ≡ a.closing → Moved a 0 0 0 0 b
   idle a b p q = record {
-    balance = renamed (still _ _ (reads a.port).stored) refl refl refl refl (ap (λ x. (reads x).stored) p);
-    num = ap (λ x. (reads x).num) p;
-    den = ap (λ x. (reads x).den) p;
+    balance = renamed (still _ _ (ports.reads a.port).stored) refl refl refl refl (ap (λ x. (ports.reads x).stored) p);
+    num = ap (λ x. (ports.reads x).num) p;
+    den = ap (λ x. (ports.reads x).den) p;
     closing = q;
   }
 
   refused : (a b : Rig P C) → b ≡ a → Moved a 0 0 0 0 b
   refused a b e = idle a b (ap (λ (r : Rig P C). r.port) e) (ap (λ (r : Rig P C). r.closing) e)
 
-  rounded : (a : Rig P C) (f : ℤ) (x : Round) (b : Rig P C) → Rounded reads takes a f x b
+  rounded : (a : Rig P C) (f : ℤ) (x : Round) (b : Rig P C) → Rounded ports a f x b
       → Moved a (sq x.falling.value) (sq x.rising.value) (x.absorbed + 0) x.shortened b
   rounded a f x b h =
       let F = laws.fall a.port f _ b.port h.took in
@@ -76,17 +77,17 @@ module _ {P C : Type 0} (reads : P → Readings) (takes : P → ℤ → Taken �
         closing = h.closing;
       }
 
-  emptied : (a : Rig P C) (D : ℕ) (b : Rig P C) → Emptied reads clears a D b → Moved a 0 0 (0 + D) 0 b
+  emptied : (a : Rig P C) (D : ℕ) (b : Rig P C) → Emptied ports a D b → Moved a 0 0 (0 + D) 0 b
   emptied a D b h =
       let F = laws.cleared a.port D b.port h.emptied in
       record {
-        balance = renamed (spilled _ _ (reads a.port).stored) refl refl refl (zero-add D ∙ F.dropped) F.empty;
+        balance = renamed (spilled _ _ (ports.reads a.port).stored) refl refl refl (zero-add D ∙ F.dropped) F.empty;
         num = F.keeps.num;
         den = F.keeps.den;
         closing = h.closing;
       }
 
-  pub moved : (a : Rig P C) (x : Event) (b : Rig P C) → Step reads takes clears answers a x b
+  pub moved : (a : Rig P C) (x : Event) (b : Rig P C) → Step ports closings a x b
       → Moved a (fell x) (rose x) (of_round (λ y. y.absorbed) x + of_clear (λ D. D) x) (of_round (λ y. y.shortened) x) b
   moved a (feed e (Ok x)) b h = rounded a _ x b h.2.round
   moved a (feed e (Err y)) b h = refused a b h.0
@@ -101,13 +102,13 @@ module _ {P C : Type 0} (reads : P → Readings) (takes : P → ℤ → Taken �
   moved a (turn (Ok p)) b h = idle a b h.1.port h.1.closing
   moved a (turn (Err y)) b h = refused a b h.0
 
-  pub whole : {a z : Rig P C} {xs : List Event} → Run reads takes clears answers a xs z
+  pub whole : {a z : Rig P C} {xs : List Event} → Run ports closings a xs z
       → Moved a (fallen xs) (risen xs) (absorbed xs + dropped xs) (shortened xs) z
   whole done = idle _ _ refl refl
   whole (next {a = a} {b = b} {z = z} {xs = xs} x s r) =
       let p = moved a x b s in
       let q = whole r in
-      let K : ℕ → ℕ → Type 0 = λ n d. Balanced n d (reads b.port).stored (fallen xs) (risen xs) (absorbed xs + dropped xs) (shortened xs) (reads z.port).stored in
+      let K : ℕ → ℕ → Type 0 = λ n d. Balanced n d (ports.reads b.port).stored (fallen xs) (risen xs) (absorbed xs + dropped xs) (shortened xs) (ports.reads z.port).stored in
       record {
         balance = joined _ _ _ _ _ _ _ _ _ _ _ _ _ _ p.balance (subst₂ K p.num p.den q.balance) (omega arith);
         num = q.num ∙ p.num;
@@ -115,5 +116,5 @@ module _ {P C : Type 0} (reads : P → Readings) (takes : P → ℤ → Taken �
         closing = q.closing ∙ p.closing;
       }
 
-  pub never_makes_energy : (a : Rig P C) → NeverMakesEnergy reads takes clears answers a
+  pub never_makes_energy : (a : Rig P C) → NeverMakesEnergy ports closings a
   never_makes_energy a xs z r = balance_of _ _ _ _ _ _ _ _ _ (swing_is xs) (whole r).balance

@@ -2,9 +2,9 @@
 use Rattle.std.proofs.Common.{◌≡◌, ℕ, ◌+◌, List, [], ◌∷◌, ℤ, pos, ◌+ℤ◌, ◌-ℤ◌, Ok, Err, sym, refl, ap, ◌∙◌, subst, arith}
 use lib.IntN.{+ℤ_idl, +ℤ_idr, +ℤ_assoc}
 use Rattle.wave.specs.Numbers.{sq}
-use Rattle.wave.specs.declared.ratios.lowest.Ratio.{Ratio}
-use Rattle.port.specs.Meaning.{Readings, Laws}
-use Rattle.port.specs.declared.takings.Taken.{Taken}
+use Rattle.port.specs.declared.meaning.Port.{Ghosts as PortOf}
+use Rattle.closing.specs.declared.meaning.Closing.{Ghosts as ClosingOf}
+use Rattle.port.specs.Meaning.{Laws}
 use Rattle.rig.specs.Pages.{Fresh, Entered, page_of}
 use Rattle.rig.specs.Steps.{Rounded}
 use Rattle.rig.specs.Runs.{Event, Run, Step, All, Turns, entries, absorbed, dropped, shortened, swing}
@@ -63,15 +63,15 @@ more p q r x ys a b = record {
   swings = swings_on q.swing p.swing r.swing (pos (fell x) -ℤ pos (rose x)) (swing ys) a.swings b.swings;
 }
 
-module _ {P C : Type 0} (reads : P → Readings) (takes : P → ℤ → Taken → P → Type 0) (clears : P → ℕ → P → Type 0) (answers : C → ℤ → ℤ → Ratio → ℤ) where
+module _ {P C : Type 0} (ports : PortOf P) (closings : ClosingOf C) where
   tally_is : (a b : Rig P C) → b ≡ a → b.tally ≡ a.tally
   tally_is a b e = ap (λ (r : Rig P C). r.tally) e
 
-  round_adds : (a : Rig P C) (f : ℤ) (x : Round) (b : Rig P C) (y : Event) → Rounded reads takes a f x b → entries (y ∷ []) ≡ 1 → absorbed (y ∷ []) ≡ x.absorbed
+  round_adds : (a : Rig P C) (f : ℤ) (x : Round) (b : Rig P C) (y : Event) → Rounded ports a f x b → entries (y ∷ []) ≡ 1 → absorbed (y ∷ []) ≡ x.absorbed
       → dropped (y ∷ []) ≡ 0 → shortened (y ∷ []) ≡ x.shortened → swing (y ∷ []) ≡ pos (sq x.falling.value) -ℤ pos (sq x.rising.value) → Added a.tally (y ∷ []) b.tally
   round_adds a f x b y h n A D c w = entry _ _ _ _ _ _ _ y h.tally n A D c w
 
-  adds : (a : Rig P C) (x : Event) (b : Rig P C) → Step reads takes clears answers a x b → (Turns x → ⊥) → Added a.tally (x ∷ []) b.tally
+  adds : (a : Rig P C) (x : Event) (b : Rig P C) → Step ports closings a x b → (Turns x → ⊥) → Added a.tally (x ∷ []) b.tally
   adds a (feed e (Ok x)) b h t = round_adds a _ x b (feed e (Ok x)) h.2.round (refl) (omega arith) refl (omega arith) (+ℤ_idr _)
   adds a (feed e (Err y)) b h t = same _ _ (tally_is a b h.0) (feed e (Err y)) refl refl refl refl refl
   adds a (raise (Ok w)) b h t = same _ _ h.2.tally (raise (Ok w)) refl refl refl refl refl
@@ -85,38 +85,38 @@ module _ {P C : Type 0} (reads : P → Readings) (takes : P → ℤ → Taken �
   adds a (turn (Ok p)) b h t = absurd (t tt)
   adds a (turn (Err y)) b h t = same _ _ (tally_is a b h.0) (turn (Err y)) refl refl refl refl refl
 
-  stretch : {b z : Rig P C} {ys : List Event} → Run reads takes clears answers b ys z → All (λ x. Turns x → ⊥) ys → Added b.tally ys z.tally
+  stretch : {b z : Rig P C} {ys : List Event} → Run ports closings b ys z → All (λ x. Turns x → ⊥) ys → Added b.tally ys z.tally
   stretch done k = none _
   stretch (next {a = a} {b = b} {z = z} {xs = xs} x s r) k = more _ _ _ x xs (adds a x b s k.0) (stretch r k.1)
 
   abbrev Begun : Rig P C → Type 0
-  Begun a = Fresh (reads a.port).stored a.tally
+  Begun a = Fresh (ports.reads a.port).stored a.tally
 
-  turned : (a : Rig P C) (x : Event) (b : Rig P C) → Step reads takes clears answers a x b → Turns x → Begun b
+  turned : (a : Rig P C) (x : Event) (b : Rig P C) → Step ports closings a x b → Turns x → Begun b
   turned a (feed e o) b h t = absurd t
   turned a (raise o) b h t = absurd t
   turned a (answer w f o) b h t = absurd t
   turned a (withdraw w o) b h t = absurd t
   turned a (clear o) b h t = absurd t
-  turned a (turn (Ok p)) b h t = subst (λ (x : P). Fresh (reads x).stored b.tally) (sym h.1.port) h.1.tally
+  turned a (turn (Ok p)) b h t = subst (λ (x : P). Fresh (ports.reads x).stored b.tally) (sym h.1.port) h.1.tally
   turned a (turn (Err y)) b h t = absurd t
 
-  last_turned : {a b : Rig P C} {x : Event} {xs : List Event} → Run reads takes clears answers a (x ∷ xs) b → Begins (x ∷ xs) → Begun b
+  last_turned : {a b : Rig P C} {x : Event} {xs : List Event} → Run ports closings a (x ∷ xs) b → Begins (x ∷ xs) → Begun b
   last_turned (next {a = a} {b = b} x s done) k = turned a x b s k
   last_turned (next x s (next y t r)) k = last_turned (next y t r) k
 
-  begun : {a b : Rig P C} {xs : List Event} → Run reads takes clears answers a xs b → Begins xs → Begun a → Begun b
+  begun : {a b : Rig P C} {xs : List Event} → Run ports closings a xs b → Begins xs → Begun a → Begun b
   begun done k f = f
   begun (next x s r) k f = last_turned (next x s r) k
 
-module _ {P C : Type 0} (reads : P → Readings) (takes : P → ℤ → Taken → P → Type 0) (clears : P → ℕ → P → Type 0) (laws : Laws reads takes clears)
-    (answers : C → ℤ → ℤ → Ratio → ℤ) where
-  pub pages_tell : (a : Rig P C) → Begun reads takes clears answers a → PagesTellTheTruth reads takes clears answers a
+module _ {P C : Type 0} (ports : PortOf P) (laws : Laws ports.reads ports.takes ports.clears)
+    (closings : ClosingOf C) where
+  pub pages_tell : (a : Rig P C) → Begun ports closings a → PagesTellTheTruth ports closings a
   pages_tell a f xs ys b z r q k n =
-      let B = begun reads takes clears answers r k f in
-      let A = stretch reads takes clears answers q n in
-      let M = whole reads takes clears laws answers q in
-      let t : Tells (page_of z.tally (reads z.port).stored) (reads b.port).stored ys (reads z.port).stored = record {
+      let B = begun ports closings r k f in
+      let A = stretch ports closings q n in
+      let M = whole ports laws closings q in
+      let t : Tells (page_of z.tally (ports.reads z.port).stored) (ports.reads b.port).stored ys (ports.reads z.port).stored = record {
         entries = omega (arith, A.entered, B.entries);
         start = A.start ∙ B.start;
         end = refl;
@@ -125,4 +125,4 @@ module _ {P C : Type 0} (reads : P → Readings) (takes : P → ℤ → Taken �
         shortened = omega (arith, A.shortens, B.shortened);
         swing = A.swings ∙ ap (λ w. w +ℤ swing ys) B.swing ∙ +ℤ_idl (swing ys);
       } in
-      (t, simp (M.num, M.den, t.start, t.absorbed, t.dropped, t.shortened, t.swing) (never_makes_energy reads takes clears laws answers b ys z q))
+      (t, simp (M.num, M.den, t.start, t.absorbed, t.dropped, t.shortened, t.swing) (never_makes_energy ports laws closings b ys z q))

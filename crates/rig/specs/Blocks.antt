@@ -1,9 +1,8 @@
 -- A block: a run of accepted feeds, one for each sample of the input, whose heard waves are written over the front of the output.
 use Rattle.std.specs.Prelude.{◌≡◌, ℕ, ◌+◌, ◌/◌, ◌%◌, ◌<◌, ◌≤◌, true, false, ◌⊎◌, List, [], ◌∷◌, ◌++◌, length, drop, ℤ, Ok, Err, Result}
 use Rattle.pcm.specs.Samples.{sample_wave, sample_bytes}
-use Rattle.wave.specs.declared.ratios.lowest.Ratio.{Ratio}
-use Rattle.port.specs.Meaning.{Readings}
-use Rattle.port.specs.declared.takings.Taken.{Taken}
+use Rattle.port.specs.declared.meaning.Port.{Ghosts as PortOf}
+use Rattle.closing.specs.declared.meaning.Closing.{Ghosts as ClosingOf}
 use Rattle.rig.specs.Limits.{page_length}
 use Rattle.rig.specs.Runs.{Event, Run}
 use Rattle.rig.specs.Runs.Event.{feed}
@@ -44,12 +43,12 @@ module _ {P C : Type 0} where
   Blockable a input output =
       (a.raised ≡ false) × (a.tally.entries + length input / 2 ≤ page_length) × (length input % 2 ≡ 0) × (length input ≤ length output)
 
-module _ {P C : Type 0} (reads : P → Readings) (takes : P → ℤ → Taken → P → Type 0) (clears : P → ℕ → P → Type 0) (answers : C → ℤ → ℤ → Ratio → ℤ) where
+module _ {P C : Type 0} (ports : PortOf P) (closings : ClosingOf C) where
   -- the rig a is fed the samples of `input` and is then b; what is heard stands in `after`, where `before` stood
   pub record Filtered (a : Rig P C) (input before : List ℕ) (b : Rig P C) (after : List ℕ) : Type 0 where
     pub rounds : List Round
     pub one_each : length rounds ≡ length (waves_of input)
-    pub run : Run reads takes clears answers a (feeds (waves_of input) rounds) b
+    pub run : Run ports closings a (feeds (waves_of input) rounds) b
     pub written : after ≡ heard_bytes rounds ++ drop (length input) before
 
   abbrev pub Blocked : Rig P C → List ℕ → List ℕ → Result (Unit {0}) Refusal → Rig P C → List ℕ → Type 0
@@ -59,7 +58,7 @@ module _ {P C : Type 0} (reads : P → Readings) (takes : P → ℤ → Taken �
   -- one sample of a block: the rig a is fed e and is then b, and `out` is what it heard
   pub record Passed (a : Rig P C) (e : ℤ) (out : List ℕ) (b : Rig P C) : Type 0 where
     pub round : Round
-    pub run : Run reads takes clears answers a (feed e (Ok round) ∷ []) b
+    pub run : Run ports closings a (feed e (Ok round) ∷ []) b
     pub heard : out ≡ sample_bytes round.heard
     pub idle : b.raised ≡ false
     pub entered : b.tally.entries ≡ a.tally.entries + 1

@@ -1,8 +1,8 @@
 -- What a rig promises of every list of calls. A moment is right after the making or after any call: the rig z that a run leads to.
 use Rattle.std.specs.Prelude.{◌≡◌, ℕ, ◌+◌, ◌*◌, ◌≤◌, List, [], ◌∷◌, ℤ, pos, ◌+ℤ◌, ◌*ℤ◌, ◌≤ℤ◌}
-use Rattle.wave.specs.declared.ratios.lowest.Ratio.{Ratio}
-use Rattle.port.specs.Meaning.{Readings}
-use Rattle.port.specs.declared.takings.Taken.{Taken}
+use Rattle.port.specs.declared.meaning.Port.{Ghosts as PortOf}
+use Rattle.closing.specs.Meaning.{Bounded}
+use Rattle.closing.specs.declared.meaning.Closing.{Ghosts as ClosingOf}
 use Rattle.rig.specs.Pages.{page_of}
 use Rattle.rig.specs.Runs.{Event, Run, All, Feeds, Turns, of_feed, sum, entries, absorbed, dropped, shortened, swing, busy}
 use Rattle.rig.specs.declared.pages.Page.{Page}
@@ -35,28 +35,39 @@ Begins [] = Unit {0}
 Begins (x ∷ []) = Turns x
 Begins (x ∷ (y ∷ ys)) = Begins (y ∷ ys)
 
-module _ {P C : Type 0} (reads : P → Readings) (takes : P → ℤ → Taken → P → Type 0) (clears : P → ℕ → P → Type 0) (answers : C → ℤ → ℤ → Ratio → ℤ) where
+module _ {P C : Type 0} (ports : PortOf P) (closings : ClosingOf C) where
   -- rounding never makes energy: at each moment the energy stored, absorbed and dropped balances with what the waves brought
   abbrev pub NeverMakesEnergy : Rig P C → Type 0
-  NeverMakesEnergy a = (xs : List Event) (z : Rig P C) → Run reads takes clears answers a xs z
-      → Balance (reads a.port).num (reads a.port).den (reads a.port).stored (reads z.port).stored (absorbed xs + dropped xs) (shortened xs) (swing xs)
+  NeverMakesEnergy a = (xs : List Event) (z : Rig P C) → Run ports closings a xs z
+      → Balance (ports.reads a.port).num (ports.reads a.port).den (ports.reads a.port).stored (ports.reads z.port).stored (absorbed xs + dropped xs) (shortened xs) (swing xs)
 
   -- where every accepted round was a feed, the energy stored, absorbed and dropped is at most that at the start and the closing's offers for the
   -- samples fed
   abbrev pub StaysWithinOffers : (C → ℤ → ℕ) → Rig P C → Type 0
-  StaysWithinOffers offers a = (xs : List Event) (z : Rig P C) → Run reads takes clears answers a xs z → All (Feeds (λ e. Unit {0})) xs
-      → (reads z.port).stored + (absorbed xs + dropped xs) ≤ (reads a.port).stored + sum (of_feed (offers a.closing)) xs
+  StaysWithinOffers offers a = (xs : List Event) (z : Rig P C) → Run ports closings a xs z → All (Feeds (λ e. Unit {0})) xs
+      → (ports.reads z.port).stored + (absorbed xs + dropped xs) ≤ (ports.reads a.port).stored + sum (of_feed (offers a.closing)) xs
 
   -- in silence the filter runs down: after any calls xs, in any stretch ys of calls in which every accepted round is a feed of 0, the rounds that
   -- shorten or absorb anything number at most the energy stored when the stretch began
   abbrev pub RunsDown : Rig P C → Type 0
-  RunsDown a = (xs ys : List Event) (b z : Rig P C) → Run reads takes clears answers a xs b → Run reads takes clears answers b ys z
-      → All (Feeds (λ e. e ≡ pos 0)) ys → busy ys ≤ (reads b.port).stored
+  RunsDown a = (xs ys : List Event) (b z : Rig P C) → Run ports closings a xs b → Run ports closings b ys z
+      → All (Feeds (λ e. e ≡ pos 0)) ys → busy ys ≤ (ports.reads b.port).stored
 
   -- the page tells the truth: its count and sums are those of the calls ys since the last accepted turn, or since the making; and so rounding made no
   -- energy on it either
   abbrev pub PagesTellTheTruth : Rig P C → Type 0
-  PagesTellTheTruth a = (xs ys : List Event) (b z : Rig P C) → Run reads takes clears answers a xs b → Run reads takes clears answers b ys z
+  PagesTellTheTruth a = (xs ys : List Event) (b z : Rig P C) → Run ports closings a xs b → Run ports closings b ys z
       → Begins xs → All (λ x. Turns x → ⊥) ys
-      → Tells (page_of z.tally (reads z.port).stored) (reads b.port).stored ys (reads z.port).stored
-      × PageBalance (reads z.port).num (reads z.port).den (page_of z.tally (reads z.port).stored)
+      → Tells (page_of z.tally (ports.reads z.port).stored) (ports.reads b.port).stored ys (ports.reads z.port).stored
+      × PageBalance (ports.reads z.port).num (ports.reads z.port).den (page_of z.tally (ports.reads z.port).stored)
+
+  -- what a new rig promises of every list of calls from here on
+  pub record Promises (a : Rig P C) : Type 0 where
+    -- rounding never makes energy
+    pub energy : NeverMakesEnergy a
+    -- over a bounded closing the energy stays within what was offered
+    pub offers : (offers : C → ℤ → ℕ) → Bounded closings.answers offers → StaysWithinOffers offers a
+    -- over a bounded closing the filter runs down in silence
+    pub silences : (offers : C → ℤ → ℕ) → Bounded closings.answers offers → RunsDown a
+    -- the page tells the truth
+    pub pages : PagesTellTheTruth a

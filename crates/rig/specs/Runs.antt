@@ -1,9 +1,8 @@
 -- Any list of calls of a rig, and the sums over what they answered.
 use Rattle.std.specs.Prelude.{ℕ, ◌+◌, min, List, [], ◌∷◌, ℤ, pos, ◌+ℤ◌, ◌-ℤ◌, Ok, Err, Result}
 use Rattle.wave.specs.Numbers.{sq}
-use Rattle.wave.specs.declared.ratios.lowest.Ratio.{Ratio}
-use Rattle.port.specs.Meaning.{Readings}
-use Rattle.port.specs.declared.takings.Taken.{Taken}
+use Rattle.port.specs.declared.meaning.Port.{Ghosts as PortOf}
+use Rattle.closing.specs.declared.meaning.Closing.{Ghosts as ClosingOf}
 use Rattle.rig.specs.Steps.{Fed, Raised, Answered, Withdrawn, Cleared, Turned}
 use Rattle.rig.specs.declared.pages.Page.{Page}
 use Rattle.rig.specs.declared.pages.Round.{Round}
@@ -103,15 +102,15 @@ swing (x ∷ xs) = (pos (of_round (λ y. sq y.falling.value) x) -ℤ pos (of_rou
 abbrev pub busy : List Event → ℕ
 busy = sum (of_round (λ x. min 1 (x.shortened + x.absorbed)))
 
-module _ {P C : Type 0} (reads : P → Readings) (takes : P → ℤ → Taken → P → Type 0) (clears : P → ℕ → P → Type 0) (answers : C → ℤ → ℤ → Ratio → ℤ) where
+module _ {P C : Type 0} (ports : PortOf P) (closings : ClosingOf C) where
   -- one call: exactly what its contract says
   abbrev pub Step : Rig P C → Event → Rig P C → Type 0
-  Step a (feed e o) b = Fed reads takes answers a e o b
-  Step a (raise o) b = Raised reads a o b
-  Step a (answer w f o) b = Answered reads takes a w f o b
-  Step a (withdraw w o) b = Withdrawn reads a w o b
-  Step a (clear o) b = Cleared reads clears a o b
-  Step a (turn o) b = Turned reads a o b
+  Step a (feed e o) b = Fed ports closings a e o b
+  Step a (raise o) b = Raised ports a o b
+  Step a (answer w f o) b = Answered ports a w f o b
+  Step a (withdraw w o) b = Withdrawn ports a w o b
+  Step a (clear o) b = Cleared ports a o b
+  Step a (turn o) b = Turned ports a o b
 
   -- any list of calls, accepted or refused, whatever they were passed
   pub data Run : Rig P C → List Event → Rig P C → Type 0 where

@@ -3,8 +3,8 @@
 use Rattle.std.specs.Prelude.{◌≡◌, ℕ, ◌<◌, ◌≤◌, true, false, ℤ, pos, Ok, Err, Result, unsigned_abs}
 use Rattle.wave.specs.Numbers.{largest_wave}
 use Rattle.wave.specs.declared.ratios.lowest.Ratio.{Ratio}
-use Rattle.port.specs.Meaning.{Readings}
-use Rattle.port.specs.declared.takings.Taken.{Taken}
+use Rattle.port.specs.declared.meaning.Port.{Ghosts as PortOf}
+use Rattle.closing.specs.declared.meaning.Closing.{Ghosts as ClosingOf}
 use Rattle.rig.specs.Limits.{page_length}
 use Rattle.rig.specs.Pages.{Fresh, Entered, page_of}
 use Rattle.rig.specs.declared.pages.Page.{Page}
@@ -51,10 +51,10 @@ module _ {P C : Type 0} where
   Unturned a PageFull = ⊥
   Unturned a BlockLength = ⊥
 
-module _ {P C : Type 0} (reads : P → Readings) where
+module _ {P C : Type 0} (ports : PortOf P) where
   -- the open wave w fits a rig that has a wave open, and whose number and rising wave are its own
   abbrev pub Fits : Rig P C → OpenWave → Type 0
-  Fits a w = (a.raised ≡ true) × (w.number ≡ a.number) × (w.rising.value ≡ (reads a.port).rising)
+  Fits a w = (a.raised ≡ true) × (w.number ≡ a.number) × (w.rising.value ≡ (ports.reads a.port).rising)
 
   -- why an answer f to w is refused
   abbrev pub Unanswered : Rig P C → OpenWave → ℤ → Refusal → Type 0
@@ -82,8 +82,8 @@ module _ {P C : Type 0} (reads : P → Readings) where
 
   -- the page p is answered and the next one begun
   pub record Renewed (a : Rig P C) (p : Page) (b : Rig P C) : Type 0 where
-    pub answer : p ≡ page_of a.tally (reads a.port).stored
-    pub tally : Fresh (reads a.port).stored b.tally
+    pub answer : p ≡ page_of a.tally (ports.reads a.port).stored
+    pub tally : Fresh (ports.reads a.port).stored b.tally
     pub port : b.port ≡ a.port
     pub closing : b.closing ≡ a.closing
     pub number : b.number ≡ a.number
@@ -93,36 +93,23 @@ module _ {P C : Type 0} (reads : P → Readings) where
   Turned a (Ok p) b = (a.raised ≡ false) × Renewed a p b
   Turned a (Err why) b = (b ≡ a) × Unturned a why
 
-module _ {P C : Type 0} (reads : P → Readings) (takes : P → ℤ → Taken → P → Type 0) where
   -- a round: f falls into the port of the rig a, which answers x and is then b
   pub record Rounded (a : Rig P C) (f : ℤ) (x : Round) (b : Rig P C) : Type 0 where
-    pub rising : x.rising.value ≡ (reads a.port).rising
+    pub rising : x.rising.value ≡ (ports.reads a.port).rising
     pub falling : x.falling.value ≡ f
-    pub took : takes a.port f (record { absorbed = x.absorbed; shortened = x.shortened; heard = x.heard }) b.port
+    pub took : ports.takes a.port f (record { absorbed = x.absorbed; shortened = x.shortened; heard = x.heard }) b.port
     pub tally : Entered a.tally x.rising.value x.falling.value x.absorbed x.shortened 0 b.tally
     pub raised : b.raised ≡ false
     pub closing : b.closing ≡ a.closing
     pub number : b.number ≡ a.number
 
-  -- a round whose falling wave is the closing's answer, at the sample e, to the port's rising wave and ratio
-  pub record Closed (answers : C → ℤ → ℤ → Ratio → ℤ) (a : Rig P C) (e : ℤ) (x : Round) (b : Rig P C) : Type 0 where
-    pub ratio : Ratio
-    pub num : ratio.num ≡ (reads a.port).num
-    pub den : ratio.den ≡ (reads a.port).den
-    pub round : Rounded a (answers a.closing (reads a.port).rising e ratio) x b
-
-  abbrev pub Fed : (C → ℤ → ℤ → Ratio → ℤ) → Rig P C → ℤ → Result Round Refusal → Rig P C → Type 0
-  Fed answers a e (Ok x) b = (unsigned_abs e ≤ largest_wave) × Ready a × Closed answers a e x b
-  Fed answers a e (Err why) b = (b ≡ a) × Unfed a e why
-
   abbrev pub Answered : Rig P C → OpenWave → ℤ → Result Round HandedBack → Rig P C → Type 0
-  Answered a w f (Ok x) b = (unsigned_abs f ≤ largest_wave) × Fits reads a w × Rounded a f x b
-  Answered a w f (Err y) b = (b ≡ a) × (y.wave ≡ w) × Unanswered reads a w f y.refusal
+  Answered a w f (Ok x) b = (unsigned_abs f ≤ largest_wave) × Fits a w × Rounded a f x b
+  Answered a w f (Err y) b = (b ≡ a) × (y.wave ≡ w) × Unanswered a w f y.refusal
 
-module _ {P C : Type 0} (reads : P → Readings) (clears : P → ℕ → P → Type 0) where
   -- the port is cleared of the energy D
   pub record Emptied (a : Rig P C) (D : ℕ) (b : Rig P C) : Type 0 where
-    pub emptied : clears a.port D b.port
+    pub emptied : ports.clears a.port D b.port
     pub tally : Entered a.tally (pos 0) (pos 0) 0 0 D b.tally
     pub raised : b.raised ≡ false
     pub closing : b.closing ≡ a.closing
@@ -131,3 +118,15 @@ module _ {P C : Type 0} (reads : P → Readings) (clears : P → ℕ → P → T
   abbrev pub Cleared : Rig P C → Result ℕ Refusal → Rig P C → Type 0
   Cleared a (Ok D) b = Ready a × Emptied a D b
   Cleared a (Err why) b = (b ≡ a) × Unready a why
+
+module _ {P C : Type 0} (ports : PortOf P) (closings : ClosingOf C) where
+  -- a round whose falling wave is the closing's answer, at the sample e, to the port's rising wave and ratio
+  pub record Closed (a : Rig P C) (e : ℤ) (x : Round) (b : Rig P C) : Type 0 where
+    pub ratio : Ratio
+    pub num : ratio.num ≡ (ports.reads a.port).num
+    pub den : ratio.den ≡ (ports.reads a.port).den
+    pub round : Rounded ports a (closings.answers a.closing (ports.reads a.port).rising e ratio) x b
+
+  abbrev pub Fed : Rig P C → ℤ → Result Round Refusal → Rig P C → Type 0
+  Fed a e (Ok x) b = (unsigned_abs e ≤ largest_wave) × Ready a × Closed a e x b
+  Fed a e (Err why) b = (b ≡ a) × Unfed a e why

@@ -30,7 +30,7 @@ impl<P: Port, C: Closing> Rig<P, C> {
     // One sample of a block.
     fn pass(&mut self, low: u8, high: u8) -> [u8; 2]
         requires { (self.old.raised ≡ false) × (self.old.tally.entries < page_length) }
-        ensures { Passed P.Port.reads P.Port.takes P.Port.clears C.Closing.answers self.old (sample_wave low high) result self.new }
+        ensures { Passed P.Port C.Closing self.old (sample_wave low high) result self.new }
     {
         match self.feed(wave_of(low, high)) {
             Ok(round) => bytes_of(round.heard),
@@ -40,7 +40,7 @@ impl<P: Port, C: Closing> Rig<P, C> {
 
     /// Feeds the samples of `input`, each a signed number of 16 bits with its low byte first, and writes what is heard into the front of `output`.
     pub fn block(&mut self, input: &[u8], output: &mut [u8]) -> Result<(), Refusal>
-        ensures { Blocked P.Port.reads P.Port.takes P.Port.clears C.Closing.answers self.old input.now output.old result self.new output.new }
+        ensures { Blocked P.Port C.Closing self.old input.now output.old result self.new output.new }
     {
         self.block_ready(input, output)?;
         for i in 0..input.len() / 2 {

@@ -1,9 +1,8 @@
-ghost use Rattle.std.specs.Prelude.{◌≡◌, ℕ, ◌<◌, true, false, ℤ, MatchBool, MatchResult};
-ghost use Rattle.closing.specs.Meaning.{Bounded};
+ghost use Rattle.std.specs.Prelude.{◌≡◌, ◌<◌, true, false, MatchBool, MatchResult};
 ghost use Rattle.rig.specs.Limits.{page_length};
 ghost use Rattle.rig.specs.Pages.{page_of, Fresh};
 ghost use Rattle.rig.specs.Steps.{Ready, Unready, Fits, Rounded, Fed, Raised, Answered, Withdrawn, Cleared, Turned};
-ghost use Rattle.rig.specs.Energy.{NeverMakesEnergy, StaysWithinOffers, RunsDown, PagesTellTheTruth};
+ghost use Rattle.rig.specs.Energy.{Promises};
 
 use crate::handed::HandedBack;
 use crate::pages::{PAGE_LENGTH, Page, Round};
@@ -35,10 +34,7 @@ impl<P: Port, C: Closing> Rig<P, C> {
     /// bounded closing the energy stays within what was offered, and in silence the filter runs down.
     pub fn new(port: P, closing: C, number: u32) -> Rig<P, C>
         ensures made { (result.port ≡ port) × (result.closing ≡ closing) × (result.number ≡ number) × (result.raised ≡ false) × Fresh (P.Port.reads port).stored result.tally }
-        ensures energy { NeverMakesEnergy P.Port.reads P.Port.takes P.Port.clears C.Closing.answers result }
-        ensures offers { (offers : C → ℤ → ℕ) → Bounded C.Closing.answers offers → StaysWithinOffers P.Port.reads P.Port.takes P.Port.clears C.Closing.answers offers result }
-        ensures silences { (offers : C → ℤ → ℕ) → Bounded C.Closing.answers offers → RunsDown P.Port.reads P.Port.takes P.Port.clears C.Closing.answers result }
-        ensures pages { PagesTellTheTruth P.Port.reads P.Port.takes P.Port.clears C.Closing.answers result }
+        ensures promises { Promises P.Port C.Closing result }
     {
         let tally = Tally::fresh(port.stored());
         Rig {
@@ -74,7 +70,7 @@ impl<P: Port, C: Closing> Rig<P, C> {
     // The port takes `falling`, and the round is entered on the page.
     fn round(&mut self, rising: Wave, falling: Wave) -> Round
         requires { (rising.value ≡ (P.Port.reads self.old.port).rising) × (self.old.tally.entries < page_length) }
-        ensures { Rounded P.Port.reads P.Port.takes self.old falling.value result self.new }
+        ensures { Rounded P.Port self.old falling.value result self.new }
     {
         let taken = self.port.take(falling.get());
         self.tally = self
@@ -105,7 +101,7 @@ impl<P: Port, C: Closing> Rig<P, C> {
 
     /// A round at the sample e: the closing answers the port's rising wave, and the port takes that answer.
     pub fn feed(&mut self, e: i32) -> Result<Round, Refusal>
-        ensures { Fed P.Port.reads P.Port.takes C.Closing.answers self.old e result self.new }
+        ensures { Fed P.Port C.Closing self.old e result self.new }
     {
         if e.unsigned_abs() > LARGEST_WAVE {
             return Err(Refusal::Beyond);
@@ -119,7 +115,7 @@ impl<P: Port, C: Closing> Rig<P, C> {
 
     /// Hands the rising wave out, to be answered or withdrawn.
     pub fn raise(&mut self) -> Result<OpenWave, Refusal>
-        ensures { Raised P.Port.reads self.old result self.new }
+        ensures { Raised P.Port self.old result self.new }
     {
         self.ready()?;
         self.raised = true;
@@ -131,14 +127,14 @@ impl<P: Port, C: Closing> Rig<P, C> {
 
     // The wave is the one that is open.
     fn fits(&self, wave: &OpenWave) -> bool
-        ensures { MatchBool result (Fits P.Port.reads self.now wave.now) (Fits P.Port.reads self.now wave.now → ⊥) }
+        ensures { MatchBool result (Fits P.Port self.now wave.now) (Fits P.Port self.now wave.now → ⊥) }
     {
         self.raised && wave.number == self.number && wave.rising.get() == self.port.rising().get()
     }
 
     /// A round with the caller's own falling wave f. A refused open wave is handed back.
     pub fn answer(&mut self, wave: OpenWave, f: i32) -> Result<Round, HandedBack>
-        ensures { Answered P.Port.reads P.Port.takes self.old wave f result self.new }
+        ensures { Answered P.Port self.old wave f result self.new }
     {
         if f.unsigned_abs() > LARGEST_WAVE {
             return Err(HandedBack {
@@ -158,7 +154,7 @@ impl<P: Port, C: Closing> Rig<P, C> {
 
     /// Ends an open wave without a round. A refused open wave is handed back.
     pub fn withdraw(&mut self, wave: OpenWave) -> Result<(), HandedBack>
-        ensures { Withdrawn P.Port.reads self.old wave result self.new }
+        ensures { Withdrawn P.Port self.old wave result self.new }
     {
         if !self.fits(&wave) {
             return Err(HandedBack {
@@ -173,7 +169,7 @@ impl<P: Port, C: Closing> Rig<P, C> {
 
     /// Clears the port, and answers the energy that was dropped.
     pub fn clear(&mut self) -> Result<u64, Refusal>
-        ensures { Cleared P.Port.reads P.Port.clears self.old result self.new }
+        ensures { Cleared P.Port self.old result self.new }
     {
         self.ready()?;
         let dropped = self.port.clear();
@@ -183,7 +179,7 @@ impl<P: Port, C: Closing> Rig<P, C> {
 
     /// Answers the page, and starts the next.
     pub fn turn(&mut self) -> Result<Page, Refusal>
-        ensures { Turned P.Port.reads self.old result self.new }
+        ensures { Turned P.Port self.old result self.new }
     {
         if self.raised {
             return Err(Refusal::WaveOpen);

@@ -1,9 +1,8 @@
 -- The calls of a session, each a list of calls of its rig: a page is turned as soon as it is full.
 use Rattle.std.specs.Prelude.{◌≡◌, ℕ, ◌+◌, ◌<◌, ◌≤◌, List, [], ◌∷◌, ℤ, Some, None, Ok, Err, Option, Result, unsigned_abs}
 use Rattle.wave.specs.Numbers.{largest_wave}
-use Rattle.wave.specs.declared.ratios.lowest.Ratio.{Ratio}
-use Rattle.port.specs.Meaning.{Readings}
-use Rattle.port.specs.declared.takings.Taken.{Taken}
+use Rattle.port.specs.declared.meaning.Port.{Ghosts as PortOf}
+use Rattle.closing.specs.declared.meaning.Closing.{Ghosts as ClosingOf}
 use Rattle.rig.specs.Limits.{page_length}
 use Rattle.rig.specs.Steps.{Renewed}
 use Rattle.rig.specs.Runs.{Event, Run}
@@ -35,22 +34,22 @@ abbrev pub Fills : {P C : Type 0} → Rig P C → Option Page → Type 0
 Fills a None = a.tally.entries + 1 < page_length
 Fills a (Some p) = a.tally.entries + 1 ≡ page_length
 
-module _ {P C : Type 0} (reads : P → Readings) where
+module _ {P C : Type 0} (ports : PortOf P) where
   abbrev pub Turned : Rig P C → Option Page → Rig P C → Type 0
   Turned a None b = (a.tally.entries < page_length) × (b ≡ a)
-  Turned a (Some p) b = (page_length ≤ a.tally.entries) × Renewed reads a p b
+  Turned a (Some p) b = (page_length ≤ a.tally.entries) × Renewed ports a p b
 
-module _ {P C : Type 0} (reads : P → Readings) (takes : P → ℤ → Taken → P → Type 0) (clears : P → ℕ → P → Type 0) (answers : C → ℤ → ℤ → Ratio → ℤ) where
+module _ {P C : Type 0} (ports : PortOf P) (closings : ClosingOf C) where
   -- a feed of e, and the turn of the page that it filled
   abbrev pub Sounded : Rig P C → ℤ → Result Entry Refusal → Rig P C → Type 0
-  Sounded a e (Ok x) b = Run reads takes clears answers a (feed e (Ok x.round) ∷ turns x.page) b × Fills a x.page
+  Sounded a e (Ok x) b = Run ports closings a (feed e (Ok x.round) ∷ turns x.page) b × Fills a x.page
   Sounded a e (Err why) b = (b ≡ a) × (why ≡ Beyond) × (largest_wave < unsigned_abs e)
 
   -- a clear that dropped D, and the turn of the page that it filled
   abbrev pub Dropped : Rig P C → ℕ → Option Page → Rig P C → Type 0
-  Dropped a D p b = Run reads takes clears answers a (clear (Ok D) ∷ turns p) b × Fills a p
+  Dropped a D p b = Run ports closings a (clear (Ok D) ∷ turns p) b × Fills a p
 
   -- the last turn, where there are entries
   abbrev pub Finished : Rig P C → Option Page → Rig P C → Type 0
   Finished a None b = (a.tally.entries ≡ 0) × (b ≡ a)
-  Finished a (Some p) b = (0 < a.tally.entries) × Run reads takes clears answers a (turn (Ok p) ∷ []) b
+  Finished a (Some p) b = (0 < a.tally.entries) × Run ports closings a (turn (Ok p) ∷ []) b

@@ -1,9 +1,8 @@
 mod turning;
 
 ghost use Rattle.std.specs.Prelude.{◌≡◌, ℕ, false, ℤ};
-ghost use Rattle.closing.specs.Meaning.{Bounded};
 ghost use Rattle.rig.specs.Pages.{Fresh};
-ghost use Rattle.rig.specs.Energy.{NeverMakesEnergy, StaysWithinOffers, RunsDown, PagesTellTheTruth};
+ghost use Rattle.rig.specs.Energy.{Promises};
 ghost use Rattle.session.specs.Sessions.{Turned, Sounded, Dropped, Finished};
 
 use closing::Closing;
@@ -14,7 +13,7 @@ pub use turning::{Entry, Session};
 // Turns the page if it is full.
 fn turn_full<P: Port, C: Closing>(rig: &mut Rig<P, C>) -> Option<Page>
     requires { rig.old.raised ≡ false }
-    ensures { Turned P.Port.reads rig.old result rig.new }
+    ensures { Turned P.Port rig.old result rig.new }
 {
     if rig.entries() < PAGE_LENGTH {
         return None;
@@ -29,10 +28,7 @@ impl<P: Port, C: Closing> Session<P, C> {
     /// A session with a new rig. What the rig promises of every list of calls, the session's calls keep, since each is such a list.
     pub fn new(port: P, closing: C, number: u32) -> Session<P, C>
         ensures made { (result.rig.port ≡ port) × (result.rig.closing ≡ closing) × (result.rig.number ≡ number) × Fresh (P.Port.reads port).stored result.rig.tally }
-        ensures energy { NeverMakesEnergy P.Port.reads P.Port.takes P.Port.clears C.Closing.answers result.rig }
-        ensures offers { (offers : C → ℤ → ℕ) → Bounded C.Closing.answers offers → StaysWithinOffers P.Port.reads P.Port.takes P.Port.clears C.Closing.answers offers result.rig }
-        ensures silences { (offers : C → ℤ → ℕ) → Bounded C.Closing.answers offers → RunsDown P.Port.reads P.Port.takes P.Port.clears C.Closing.answers result.rig }
-        ensures pages { PagesTellTheTruth P.Port.reads P.Port.takes P.Port.clears C.Closing.answers result.rig }
+        ensures promises { Promises P.Port C.Closing result.rig }
     {
         Session {
             rig: Rig::new(port, closing, number),
@@ -48,7 +44,7 @@ impl<P: Port, C: Closing> Session<P, C> {
 
     /// A round at the sample e, and the page if that filled it. Refused only where e is beyond the largest wave.
     pub fn feed(&mut self, e: i32) -> Result<Entry, Refusal>
-        ensures { Sounded P.Port.reads P.Port.takes P.Port.clears C.Closing.answers self.old.rig e result self.new.rig }
+        ensures { Sounded P.Port C.Closing self.old.rig e result self.new.rig }
     {
         match self.rig.feed(e) {
             Ok(round) => {
@@ -61,7 +57,7 @@ impl<P: Port, C: Closing> Session<P, C> {
 
     /// Clears the port: the energy dropped, and the page if that filled it.
     pub fn clear(&mut self) -> (u64, Option<Page>)
-        ensures { Dropped P.Port.reads P.Port.takes P.Port.clears C.Closing.answers self.old.rig result.0 result.1 self.new.rig }
+        ensures { Dropped P.Port C.Closing self.old.rig result.0 result.1 self.new.rig }
     {
         match self.rig.clear() {
             Ok(dropped) => {
@@ -74,7 +70,7 @@ impl<P: Port, C: Closing> Session<P, C> {
 
     /// Turns the page if it has entries.
     pub fn finish(&mut self) -> Option<Page>
-        ensures { Finished P.Port.reads P.Port.takes P.Port.clears C.Closing.answers self.old.rig result self.new.rig }
+        ensures { Finished P.Port C.Closing self.old.rig result self.new.rig }
     {
         if self.rig.entries() == 0 {
             return None;

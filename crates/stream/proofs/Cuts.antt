@@ -1,9 +1,8 @@
 -- Two pieces, one after the other, are one piece; and a byte is a piece.
 use Rattle.std.proofs.Common.{◌≡◌, ℕ, List, [], ◌∷◌, ◌++◌, ℤ, Some, None, Ok, Err, Option, sym, refl, ap, ◌∙◌, subst, ap₂, append_assoc, arith}
 use Rattle.pcm.specs.Samples.{sample_wave, sample_bytes}
-use Rattle.wave.specs.declared.ratios.lowest.Ratio.{Ratio}
-use Rattle.port.specs.Meaning.{Readings}
-use Rattle.port.specs.declared.takings.Taken.{Taken}
+use Rattle.port.specs.declared.meaning.Port.{Ghosts as PortOf}
+use Rattle.closing.specs.declared.meaning.Closing.{Ghosts as ClosingOf}
 use Rattle.rig.specs.Blocks.{waves_of, heard_bytes}
 use Rattle.rig.specs.Runs.{Event, Run, Feeds}
 use Rattle.rig.specs.Runs.Event.{feed, raise, answer, withdraw, clear, turn}
@@ -68,14 +67,14 @@ append_none : (xs : List ℕ) → xs ++ [] ≡ xs
 append_none [] = refl
 append_none (x ∷ xs) = ap (λ (t : List ℕ). x ∷ t) (append_none xs)
 
-module _ {P C : Type 0} (reads : P → Readings) (takes : P → ℤ → Taken → P → Type 0) (clears : P → ℕ → P → Type 0) (answers : C → ℤ → ℤ → Ratio → ℤ) where
-  pub whatever_the_cuts : WhateverTheCuts {P = P} {C = C} reads takes clears answers
+module _ {P C : Type 0} (ports : PortOf P) (closings : ClosingOf C) where
+  pub whatever_the_cuts : WhateverTheCuts {P = P} {C = C} ports closings
   whatever_the_cuts a b c l m n x y o q p r A B =
       let w = waiting l ++ x in
       let s : waiting l ++ (x ++ y) ≡ w ++ y = sym (append_assoc (waiting l) x y) in
       record {
         calls = A.calls ++ B.calls;
-        run = run_more reads takes clears answers A.run B.run;
+        run = run_more ports closings A.run B.run;
         feeds = all-++ (Feeds (λ e. Unit {0})) A.calls B.calls A.feeds B.feeds;
         samples = fed-++ A.calls B.calls ∙ ap₂ (λ (t : List ℤ) (u : List ℤ). t ++ u) A.samples (B.samples ∙ ap (λ (t : List ℕ). waves_of (t ++ y)) A.waits)
             ∙ sym (ap waves_of s ∙ waves_cut w y);
@@ -86,24 +85,24 @@ module _ {P C : Type 0} (reads : P → Readings) (takes : P → ℤ → Taken �
       }
 
   -- nothing yet
-  pub no_piece : (a : Rig P C) (l : Option ℕ) → Pieced reads takes clears answers a l [] [] [] a l
+  pub no_piece : (a : Rig P C) (l : Option ℕ) → Pieced ports closings a l [] [] [] a l
   no_piece a None = record { calls = []; run = done; feeds = tt; samples = refl; heard = refl; turns = refl; full = tt; waits = refl }
   no_piece a (Some b) = record { calls = []; run = done; feeds = tt; samples = refl; heard = refl; turns = refl; full = tt; waits = refl }
 
   -- a byte that waits
-  pub first_byte : (a : Rig P C) (l : Option ℕ) (b : ℕ) → l ≡ None → Pieced reads takes clears answers a l (b ∷ []) [] [] a (Some b)
-  first_byte a l b e = subst (λ (t : Option ℕ). Pieced reads takes clears answers a t (b ∷ []) [] [] a (Some b)) (sym e)
+  pub first_byte : (a : Rig P C) (l : Option ℕ) (b : ℕ) → l ≡ None → Pieced ports closings a l (b ∷ []) [] [] a (Some b)
+  first_byte a l b e = subst (λ (t : Option ℕ). Pieced ports closings a t (b ∷ []) [] [] a (Some b)) (sym e)
       record { calls = []; run = done; feeds = tt; samples = refl; heard = refl; turns = refl; full = tt; waits = refl }
 
-  filled : (a : Rig P C) (e : ℤ) (x : Round) (p : Option Page) (b : Rig P C) → Run reads takes clears answers a (feed e (Ok x) ∷ turns p) b → Fills a p → Full (listed p)
+  filled : (a : Rig P C) (e : ℤ) (x : Round) (p : Option Page) (b : Rig P C) → Run ports closings a (feed e (Ok x) ∷ turns p) b → Fills a p → Full (listed p)
   filled a e x None b r f = tt
   filled a e x (Some p) b (next y s (next z t q)) f = (ap (λ (g : Page). g.entries) t.1.answer ∙ omega (arith, s.2.round.tally.entries, f), tt)
 
   -- a byte that completes a sample
   pub second_byte : (a : Rig P C) (l : Option ℕ) (low b : ℕ) (x : Round) (p : Option Page) (out : List ℕ) (c : Rig P C) → l ≡ Some low
-      → Run reads takes clears answers a (feed (sample_wave low b) (Ok x) ∷ turns p) c → Fills a p → out ≡ sample_bytes x.heard
-      → Pieced reads takes clears answers a l (b ∷ []) out (listed p) c None
-  second_byte a l low b x p out c e r f h = subst (λ (t : Option ℕ). Pieced reads takes clears answers a t (b ∷ []) out (listed p) c None) (sym e) record {
+      → Run ports closings a (feed (sample_wave low b) (Ok x) ∷ turns p) c → Fills a p → out ≡ sample_bytes x.heard
+      → Pieced ports closings a l (b ∷ []) out (listed p) c None
+  second_byte a l low b x p out c e r f h = subst (λ (t : Option ℕ). Pieced ports closings a t (b ∷ []) out (listed p) c None) (sym e) record {
     calls = feed (sample_wave low b) (Ok x) ∷ turns p;
     run = r;
     feeds = round_feeds (λ e. Unit {0}) (sample_wave low b) x p tt;

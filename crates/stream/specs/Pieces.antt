@@ -1,8 +1,7 @@
 -- A piece of a recording: what it brings depends on its bytes and on the byte that waited for it, and not on where the recording was cut.
-use Rattle.std.specs.Prelude.{◌≡◌, ℕ, List, [], ◌∷◌, ◌++◌, length, ℤ, Some, None, Ok, Err, Option}
-use Rattle.wave.specs.declared.ratios.lowest.Ratio.{Ratio}
-use Rattle.port.specs.Meaning.{Readings}
-use Rattle.port.specs.declared.takings.Taken.{Taken}
+use Rattle.std.specs.Prelude.{◌≡◌, ℕ, List, [], ◌∷◌, ◌++◌, length, Some, None, Ok, Err, Option}
+use Rattle.port.specs.declared.meaning.Port.{Ghosts as PortOf}
+use Rattle.closing.specs.declared.meaning.Closing.{Ghosts as ClosingOf}
 use Rattle.rig.specs.Limits.{page_length}
 use Rattle.rig.specs.Blocks.{waves_of, heard_bytes}
 use Rattle.rig.specs.Runs.{Event, Run, All, Feeds}
@@ -70,12 +69,12 @@ abbrev pub Halves : Pushed → Option ℕ → Option ℕ → Type 0
 Halves Held l m = (length (waiting l) ≡ 0) × (length (waiting m) ≡ 1)
 Halves (Heard low high p) l m = (length (waiting l) ≡ 1) × (length (waiting m) ≡ 0)
 
-module _ {P C : Type 0} (reads : P → Readings) (takes : P → ℤ → Taken → P → Type 0) (clears : P → ℕ → P → Type 0) (answers : C → ℤ → ℤ → Ratio → ℤ) where
+module _ {P C : Type 0} (ports : PortOf P) (closings : ClosingOf C) where
   -- the rig a, with a byte that waits or none, gets the bytes of a piece: each sample that is whole by then is fed, `out` is what was heard of them,
   -- `pages` are those that filled, and a lone last byte waits
   pub record Pieced (a : Rig P C) (low : Option ℕ) (piece : List ℕ) (out : List ℕ) (pages : List Page) (b : Rig P C) (low' : Option ℕ) : Type 0 where
     pub calls : List Event
-    pub run : Run reads takes clears answers a calls b
+    pub run : Run ports closings a calls b
     pub feeds : All (Feeds (λ e. Unit {0})) calls
     pub samples : fed calls ≡ waves_of (waiting low ++ piece)
     pub heard : out ≡ heard_bytes (rounds calls)

@@ -44,7 +44,7 @@ impl<P: Port, C: Closing> Stream<P, C> {
     /// Feeds a piece, and writes what is heard of it into the front of `out`; answers how many bytes that are. Nothing is done where `out` is not longer
     /// than the piece, since a byte that waited may complete one sample more.
     pub fn filter(&mut self, piece: &[u8], out: &mut [u8]) -> Option<usize>
-        ensures { Filters P.Port.reads P.Port.takes P.Port.clears C.Closing.answers self.old piece.now out.old result self.new out.new }
+        ensures { Filters P.Port C.Closing self.old piece.now out.old result self.new out.new }
     {
         if out.len() <= piece.len() {
             return None;
@@ -59,7 +59,7 @@ impl<P: Port, C: Closing> Stream<P, C> {
 
     /// Feeds a piece up to the byte that fills the page, or to its end.
     pub fn measure(&mut self, piece: &[u8]) -> Measured
-        ensures { Measures P.Port.reads P.Port.takes P.Port.clears C.Closing.answers self.old piece.now result self.new }
+        ensures { Measures P.Port C.Closing self.old piece.now result self.new }
     {
         for i in 0..piece.len() {
             let page = filled(self.push(piece[i]));

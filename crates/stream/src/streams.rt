@@ -1,9 +1,8 @@
 mod state;
 
 ghost use Rattle.std.specs.Prelude.{◌≡◌, ℕ, [], ◌∷◌, ℤ, None};
-ghost use Rattle.closing.specs.Meaning.{Bounded};
 ghost use Rattle.rig.specs.Pages.{Fresh};
-ghost use Rattle.rig.specs.Energy.{NeverMakesEnergy, StaysWithinOffers, RunsDown, PagesTellTheTruth};
+ghost use Rattle.rig.specs.Energy.{Promises};
 ghost use Rattle.session.specs.Sessions.{Finished};
 ghost use Rattle.stream.specs.Pieces.{Pieced, Halves, heard_of, pages_of, WhateverTheCuts};
 
@@ -18,11 +17,8 @@ impl<P: Port, C: Closing> Stream<P, C> {
     /// A stream through a new rig, with what the rig promises of every list of calls; and pieces a, then b, give what a and b together give.
     pub fn new(port: P, closing: C, number: u32) -> Stream<P, C>
         ensures made { (result.session.rig.port ≡ port) × (result.session.rig.closing ≡ closing) × (result.session.rig.number ≡ number) × Fresh (P.Port.reads port).stored result.session.rig.tally × (result.low ≡ None) }
-        ensures energy { NeverMakesEnergy P.Port.reads P.Port.takes P.Port.clears C.Closing.answers result.session.rig }
-        ensures offers { (offers : C → ℤ → ℕ) → Bounded C.Closing.answers offers → StaysWithinOffers P.Port.reads P.Port.takes P.Port.clears C.Closing.answers offers result.session.rig }
-        ensures silences { (offers : C → ℤ → ℕ) → Bounded C.Closing.answers offers → RunsDown P.Port.reads P.Port.takes P.Port.clears C.Closing.answers result.session.rig }
-        ensures pages { PagesTellTheTruth P.Port.reads P.Port.takes P.Port.clears C.Closing.answers result.session.rig }
-        ensures cuts { WhateverTheCuts {P = P} {C = C} P.Port.reads P.Port.takes P.Port.clears C.Closing.answers }
+        ensures promises { Promises P.Port C.Closing result.session.rig }
+        ensures cuts { WhateverTheCuts {P = P} {C = C} P.Port C.Closing }
     {
         Stream {
             session: Session::new(port, closing, number),
@@ -40,7 +36,7 @@ impl<P: Port, C: Closing> Stream<P, C> {
     /// One byte more.
     pub fn push(&mut self, byte: u8) -> Pushed
         ensures halves { Halves result self.old.low self.new.low }
-        ensures piece { Pieced P.Port.reads P.Port.takes P.Port.clears C.Closing.answers self.old.session.rig self.old.low (byte ∷ []) (heard_of result) (pages_of result) self.new.session.rig self.new.low }
+        ensures piece { Pieced P.Port C.Closing self.old.session.rig self.old.low (byte ∷ []) (heard_of result) (pages_of result) self.new.session.rig self.new.low }
     {
         match self.low {
             None => {
@@ -62,7 +58,7 @@ impl<P: Port, C: Closing> Stream<P, C> {
 
     /// Turns the last page, if it has entries. A lone last byte is no sample.
     pub fn finish(&mut self) -> Option<Page>
-        ensures what { Finished P.Port.reads P.Port.takes P.Port.clears C.Closing.answers self.old.session.rig result self.new.session.rig }
+        ensures what { Finished P.Port C.Closing self.old.session.rig result self.new.session.rig }
         ensures low { self.new.low ≡ self.old.low }
     {
         self.session.finish()

@@ -7,10 +7,7 @@ returns g c =
     let N = c.new.ensures in
     record {
       made = N.made;
-      energy = N.energy;
-      offers = N.offers;
-      silences = N.silences;
-      tails = λ offers bound. tail_dies g.C.Closing.answers heard_absorbs _ (N.silences offers bound);
-      pages = N.pages;
+      promises = N.promises;
+      tails = λ offers bound. tail_dies g.C.Closing heard_absorbs _ (N.promises.silences offers bound);
       cuts = N.cuts;
     }

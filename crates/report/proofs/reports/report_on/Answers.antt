@@ -5,10 +5,8 @@ use Rattle.report.proofs.reports.report_on.Goals as goal
 
 pub returns : goal.returns
 returns g c =
-    let reads = g.P.Port.reads in
-    let takes = g.P.Port.takes in
-    let clears = g.P.Port.clears in
-    let answers = g.C.Closing.answers in
+    let ports = g.P.Port in
+    let closings = g.C.Closing in
     let made = c.new-session.ensures.made in
     let E = c.speak-account.ensures in
     let R = c.rest.ensures in
@@ -19,16 +17,16 @@ returns g c =
     let start = c.stored-start.ensures in
     let spoken = c.speak-account.new.session.rig in
     let ended = c.clear-dropped.new.self.rig in
-    let T = c.stored.ensures ∙ ap (λ q. (reads q).stored) c.port.ensures in
-    let U = c.stored-2.ensures ∙ ap (λ q. (reads q).stored) c.port-2.ensures in
+    let T = c.stored.ensures ∙ ap (λ q. (ports.reads q).stored) c.port.ensures in
+    let U = c.stored-2.ensures ∙ ap (λ q. (ports.reads q).stored) c.port-2.ensures in
     let s : Sums c.speak-account.result E.calls = record { entered = E.entries; absorbs = E.absorbed; drops = E.dropped; shortens = E.shortened; swings = E.swing } in
     let both = sums_adds _ _ E.calls R.calls s R.adds in
     let all = sums_clear _ _ _ _ c.clear-dropped.result.1 both c.cleared.ensures in
     let first = weighs_of _ _ _ _ _ _ _ E.calls _ _ c.num.ensures c.den.ensures T s c.weighed-spoken.ensures in
     let last = weighs_of _ _ _ _ _ _ _ _ _ _ c.num.ensures c.den.ensures U all c.weighed-ended.ensures in
-    let whole = run_more reads takes clears answers (run_more reads takes clears answers E.speech.run R.hush.run) K in
-    let energy = c.new-session.ensures.energy in
-    let quiet = c.new-session.ensures.silences g.C.BoundedClosing.offers g.met.C.BoundedClosing.bounded _ _ _ _ E.speech.run R.hush.run R.hush.silent in
+    let whole = run_more ports closings (run_more ports closings E.speech.run R.hush.run) K in
+    let energy = c.new-session.ensures.promises.energy in
+    let quiet = c.new-session.ensures.promises.silences g.C.BoundedClosing.offers g.met.C.BoundedClosing.bounded _ _ _ _ E.speech.run R.hush.run R.hush.silent in
     record {
       what = (
         omega arith,
@@ -54,7 +52,7 @@ returns g c =
           last = last;
         },
       );
-      spoken = fair_of reads takes clears answers _ spoken p _ _ _ _ _ _ made.0 num den start refl energy E.speech.run first;
-      ended = fair_of reads takes clears answers _ ended p _ _ _ _ _ _ made.0 num den start refl energy whole last;
+      spoken = fair_of ports closings _ spoken p _ _ _ _ _ _ made.0 num den start refl energy E.speech.run first;
+      ended = fair_of ports closings _ ended p _ _ _ _ _ _ made.0 num den start refl energy whole last;
       silence = omega (arith, quiet, R.hush.busy, first.stored);
     }

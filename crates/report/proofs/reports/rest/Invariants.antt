@@ -4,5 +4,5 @@ use Rattle.report.proofs.reports.rest.Given as goal
 
 abbrev pub invariant-loop : goal.invariant-loop
 invariant-loop g l =
-    Hushed g.P.Port.reads g.P.Port.takes g.P.Port.clears g.C.Closing.answers l.initial.session.rig l.initial.account l.silence l.account l.session.rig
+    Hushed g.P.Port g.C.Closing l.initial.session.rig l.initial.account l.silence l.account l.session.rig
     × (l.silence.rounds ≡ l.counter)

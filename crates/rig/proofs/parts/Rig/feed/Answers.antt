@@ -17,6 +17,6 @@ returns g c =
         ratio = c.ratio-ratio.result;
         num = c.ratio-ratio.ensures.0;
         den = c.ratio-ratio.ensures.1;
-        round = subst (λ (f : ℤ). Rounded g.P.Port.reads g.P.Port.takes rig f c.round.result c.round.new.self) falling c.round.ensures;
+        round = subst (λ (f : ℤ). Rounded g.P.Port rig f c.round.result c.round.new.self) falling c.round.ensures;
       },
     )

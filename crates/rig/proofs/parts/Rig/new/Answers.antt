@@ -7,16 +7,16 @@ use Rattle.rig.proofs.parts.Rig.new.Goals as goal
 
 pub returns : goal.returns
 returns g c =
-    let reads = g.P.Port.reads in
-    let takes = g.P.Port.takes in
-    let clears = g.P.Port.clears in
+    let ports = g.P.Port in
     let laws = g.met.P.Port.lawful in
-    let answers = g.C.Closing.answers in
+    let closings = g.C.Closing in
     let fresh = subst (λ (S : ℕ). Fresh S c.fresh-tally.result) c.stored.ensures c.fresh-tally.ensures in
     record {
       made = (refl, refl, refl, refl, fresh);
-      energy = never_makes_energy reads takes clears laws answers _;
-      offers = λ offers bound. stays_within_offers reads takes clears laws answers offers bound _;
-      silences = λ offers bound. runs_down reads takes clears laws answers offers bound _;
-      pages = pages_tell reads takes clears laws answers _ fresh;
+      promises = record {
+        energy = never_makes_energy ports laws closings _;
+        offers = λ offers bound. stays_within_offers ports laws closings offers bound _;
+        silences = λ offers bound. runs_down ports laws closings offers bound _;
+        pages = pages_tell ports laws closings _ fresh;
+      };
     }

@@ -11,7 +11,7 @@ returns g c =
     let fits : SFits w32 c.wave_of.result = record { sfits = c.wave_of.type_inv } in
     let heard : SFits w32 x.heard = search rules in
     let told = simp to_z-of_z at c.in-Ok.ensures in
-    let fed = subst (λ (e : ℤ). Fed g.P.Port.reads g.P.Port.takes g.C.Closing.answers c.args.self.now e (Ok x) c.feed.new.self) c.wave_of.ensures told in
+    let fed = subst (λ (e : ℤ). Fed g.P.Port g.C.Closing c.args.self.now e (Ok x) c.feed.new.self) c.wave_of.ensures told in
     record {
       round = x;
       run = next (feed _ (Ok x)) fed done;

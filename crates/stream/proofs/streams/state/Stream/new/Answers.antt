@@ -7,9 +7,6 @@ returns g c =
     let N = c.new.ensures in
     record {
       made = (N.made.0, N.made.1, N.made.2, N.made.3, refl);
-      energy = N.energy;
-      offers = N.offers;
-      silences = N.silences;
-      pages = N.pages;
-      cuts = whatever_the_cuts g.P.Port.reads g.P.Port.takes g.P.Port.clears g.C.Closing.answers;
+      promises = N.promises;
+      cuts = whatever_the_cuts g.P.Port g.C.Closing;
     }

@@ -8,7 +8,7 @@ use Rattle.stream.proofs.Cuts.{first_byte, second_byte}
 use Rattle.stream.proofs.streams.state.Stream.push.Goals as goal
 
 pub returns-in-None : goal.returns-in-None
-returns-in-None g c = record { halves = (ap (λ (l : Option ℕ). length (waiting l)) c.in-None.is, refl); piece = first_byte _ _ _ _ _ _ _ c.in-None.is }
+returns-in-None g c = record { halves = (ap (λ (l : Option ℕ). length (waiting l)) c.in-None.is, refl); piece = first_byte _ _ _ _ _ c.in-None.is }
 
 pub returns-in-Ok : goal.returns-in-Ok
 returns-in-Ok g c =
@@ -17,10 +17,10 @@ returns-in-Ok g c =
     let heard : SFits w32 x.round.heard = search rules in
     let told = simp to_z-of_z at c.in-Ok.ensures.0 in
     let a = c.args.self.now.session.rig in
-    let run = subst (λ (e : ℤ). Run g.P.Port.reads g.P.Port.takes g.P.Port.clears g.C.Closing.answers a (feed e (Ok x.round) ∷ turns x.page) c.feed.new.self.rig) c.wave_of.ensures told in
+    let run = subst (λ (e : ℤ). Run g.P.Port g.C.Closing a (feed e (Ok x.round) ∷ turns x.page) c.feed.new.self.rig) c.wave_of.ensures told in
     let out = simp to_z-of_z at c.bytes_of-heard.ensures in
     record {
       halves = (ap (λ (l : Option ℕ). length (waiting l)) c.in-Some.is, refl);
-      piece = second_byte _ _ _ _ a c.args.self.now.low c.in-Some.low _ x.round x.page _ _ c.in-Some.is run c.in-Ok.ensures.1
+      piece = second_byte _ _ a c.args.self.now.low c.in-Some.low _ x.round x.page _ _ c.in-Some.is run c.in-Ok.ensures.1
           (ap (λ (l : List ℕ). get_or l 0 0 ∷ get_or l 1 0 ∷ []) out);
     }
