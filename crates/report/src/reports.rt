@@ -48,7 +48,7 @@ fn speak<P: Port, C: Closing>(session: &mut Session<P, C>, samples: &[u8]) -> Ac
 {
     let mut account = Account::empty();
     for i in 0..samples.len() / 2 {
-        match session.feed(wave_of(samples[2 * i], samples[2 * i + 1])) {
+        match session.feed(wave_of([samples[2 * i], samples[2 * i + 1]])) {
             Ok(entry) => account = account.counted(entry.round),
             Err(_) => unreachable(),
         }

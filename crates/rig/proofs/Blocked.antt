@@ -1,6 +1,7 @@
 -- A block, sample by sample.
-use Rattle.std.proofs.Common.{◌≡◌, ℕ, suc, ◌+◌, ◌*◌, ◌%◌, ◌<◌, ◌≤◌, false, List, [], ◌∷◌, ◌++◌, length, get_or, take, drop, set, ℤ, Ok, sym, refl, ap, ◌∙◌, subst, ap₂, append_assoc, arith, length-append, length-take, take_all, drop-cons}
-use Rattle.std.proofs.lemmas.List.{take_more, set_at}
+use Rattle.std.proofs.Common.{◌≡◌, ℕ, zero, suc, ◌+◌, ◌*◌, ◌/◌, ◌%◌, ◌<◌, ◌≤◌, false, List, [], ◌∷◌, ◌++◌, length, get_or, take, drop, set, ℤ, Ok, sym, refl, ap, ◌∙◌, subst, ap₂, append_assoc, arith, length-append, length-take, take_all, drop-cons, drop-drop}
+use Rattle.std.specs.Simd.{first_chunks}
+use Rattle.std.proofs.lemmas.List.{take_more, set_at, take-append-drop}
 use Rattle.pcm.specs.Samples.{sample_wave, sample_bytes}
 use Rattle.port.specs.declared.meaning.Port.{Ghosts as PortOf}
 use Rattle.closing.specs.declared.meaning.Closing.{Ghosts as ClosingOf}
@@ -25,6 +26,17 @@ feeds_more (f ∷ es) (y ∷ xs) e x h = ap (λ l. feed f (Ok y) ∷ l) (feeds_m
 heard_more : (xs : List Round) (x : Round) → heard_bytes (xs ++ (x ∷ [])) ≡ heard_bytes xs ++ sample_bytes x.heard
 heard_more [] x = refl
 heard_more (y ∷ xs) x = ap (λ l. sample_bytes y.heard ++ l) (heard_more xs x)
+
+-- the samples of some bytes, each two of them
+pub sample_at : (k : ℕ) (s : List ℕ) (i : ℕ) (d : List ℕ) → i < k → k * 2 ≤ length s → get_or (first_chunks 2 k s) i d ≡ get_or s (2 * i) 0 ∷ get_or s (2 * i + 1) 0 ∷ []
+sample_at zero s i d h l = absurd (omega arith)
+sample_at (suc k) [] i d h l = absurd (omega arith)
+sample_at (suc k) (x ∷ []) i d h l = absurd (omega arith)
+sample_at (suc k) (x ∷ (y ∷ s)) zero d h l = refl
+sample_at (suc k) (x ∷ (y ∷ s)) (suc i) d h l =
+    let low : suc (suc (2 * i)) ≡ 2 * suc i = omega arith in
+    let high : suc (suc (2 * i + 1)) ≡ 2 * suc i + 1 = omega arith in
+    sample_at k s i d (omega arith) (omega arith) ∙ ap₂ (λ m n. get_or (x ∷ (y ∷ s)) m 0 ∷ get_or (x ∷ (y ∷ s)) n 0 ∷ []) low high
 
 -- two bytes more of the input
 pub taken_two : (s : List ℕ) (i : ℕ) → 2 * i + 1 < length s → take (2 * (i + 1)) s ≡ take (2 * i) s ++ (get_or s (2 * i) 0 ∷ get_or s (2 * i + 1) 0 ∷ [])
@@ -57,8 +69,8 @@ module _ {P C : Type 0} (ports : PortOf P) (closings : ClosingOf C) where
     pub one_each : length rounds ≡ i
     pub waves : length (waves_of (take (2 * i) input)) ≡ i
     pub run : Run ports closings a (feeds (waves_of (take (2 * i) input)) rounds) b
-    pub written : after ≡ heard_bytes rounds ++ drop (2 * i) before
-    pub long : length (heard_bytes rounds) ≡ 2 * i
+    pub front : take (2 * i) after ≡ heard_bytes rounds
+    pub back : drop (2 * i) after ≡ drop (2 * i) before
     pub idle : b.raised ≡ false
     pub entered : b.tally.entries ≡ a.tally.entries + i
 
@@ -68,16 +80,21 @@ module _ {P C : Type 0} (ports : PortOf P) (closings : ClosingOf C) where
     one_each = refl;
     waves = refl;
     run = done;
-    written = refl;
-    long = refl;
+    front = refl;
+    back = refl;
     idle = h;
     entered = omega arith;
   }
 
-  pub progress_step : (a : Rig P C) (input before : List ℕ) (i : ℕ) (b : Rig P C) (after out : List ℕ) (c : Rig P C) → 2 * i + 1 < length input → length input ≤ length before
-      → Progress a input before i b after → Passed ports closings b (sample_wave (get_or input (2 * i) 0) (get_or input (2 * i + 1) 0)) out c
-      → Progress a input before (i + 1) c (set (set after (2 * i) (get_or out 0 0)) (2 * i + 1) (get_or out 1 0))
-  progress_step a input before i b after out c h k G p =
+  pub progress_step : (a : Rig P C) (input before : List ℕ) (i : ℕ) (b : Rig P C) (after out after' : List ℕ) (c : Rig P C) (ss : List (List ℕ)) (d : List ℕ)
+      → ss ≡ first_chunks 2 (length input / 2) input → length ss ≡ length input / 2 → i < length ss → length input ≤ length before → Progress a input before i b after
+      → Passed ports closings b (sample_wave (get_or (get_or ss i d) 0 0) (get_or (get_or ss i d) 1 0)) out c
+      → take (2 * (i + 1)) after' ≡ take (2 * i) after ++ out → drop (2 * (i + 1)) after' ≡ drop (2 * (i + 1)) after
+      → Progress a input before (i + 1) c after'
+  progress_step a input before i b after out after' c ss d q l n k G u front back =
+      let h : 2 * i + 1 < length input = omega (arith, l) in
+      let p : Passed ports closings b (sample_wave (get_or input (2 * i) 0) (get_or input (2 * i + 1) 0)) out c =
+      subst (λ (s : List ℕ). Passed ports closings b (sample_wave (get_or s 0 0) (get_or s 1 0)) out c) (ap (λ t. get_or t i d) q ∙ sample_at (length input / 2) input i d (omega (arith, l)) (omega arith)) u in
       let low = get_or input (2 * i) 0 in
       let high = get_or input (2 * i + 1) 0 in
       let e = sample_wave low high in
@@ -87,18 +104,14 @@ module _ {P C : Type 0} (ports : PortOf P) (closings : ClosingOf C) where
       let w : waves_of (take (2 * (i + 1)) input) ≡ ws ++ (e ∷ []) = ap waves_of (taken_two input i h) ∙ waves_more (take (2 * i) input) low high even in
       let f : feeds (waves_of (take (2 * (i + 1)) input)) (G.rounds ++ (x ∷ [])) ≡ feeds ws G.rounds ++ (feed e (Ok x) ∷ []) =
       ap (λ (l : List ℤ). feeds l (G.rounds ++ (x ∷ []))) w ∙ feeds_more ws G.rounds e x (omega (arith, G.one_each, G.waves)) in
-      let B = heard_bytes G.rounds in
-      let o : set (set after (2 * i) (get_or out 0 0)) (2 * i + 1) (get_or out 1 0)
-      ≡ set (set (B ++ drop (2 * i) before) (2 * i) (get_or (sample_bytes x.heard) 0 0)) (2 * i + 1) (get_or (sample_bytes x.heard) 1 0) =
-      ap₂ (λ (s : List ℕ) (t : List ℕ). set (set s (2 * i) (get_or t 0 0)) (2 * i + 1) (get_or t 1 0)) G.written p.heard in
-      let n : 2 * i + 1 + 1 ≡ 2 * (i + 1) = omega arith in
+      let n : 2 * i + 2 ≡ 2 * (i + 1) = omega arith in
       record {
         rounds = G.rounds ++ (x ∷ []);
         one_each = omega (arith, length-append G.rounds (x ∷ []), G.one_each);
         waves = ap length w ∙ omega (arith, length-append ws (e ∷ []), G.waves);
         run = subst (λ (l : List Event). Run ports closings a l c) (sym f) (run_more G.run p.run);
-        written = o ∙ written_two B before (2 * i) _ _ G.long (omega arith) ∙ ap₂ (λ (s : List ℕ) m. s ++ drop m before) (sym (heard_more G.rounds x)) n;
-        long = ap length (heard_more G.rounds x) ∙ omega (arith, length-append B (sample_bytes x.heard), G.long);
+        front = front ∙ ap₂ ◌++◌ G.front p.heard ∙ sym (heard_more G.rounds x);
+        back = back ∙ subst (λ m. drop m after ≡ drop m before) n (sym (drop-drop 2 (2 * i) after) ∙ ap (drop 2) G.back ∙ drop-drop 2 (2 * i) before);
         idle = p.idle;
         entered = omega (arith, p.entered, G.entered);
       }
@@ -111,5 +124,5 @@ module _ {P C : Type 0} (ports : PortOf P) (closings : ClosingOf C) where
         rounds = G.rounds;
         one_each = G.one_each ∙ sym G.waves ∙ ap (λ (s : List ℕ). length (waves_of s)) t;
         run = subst (λ (s : List ℕ). Run ports closings a (feeds (waves_of s) G.rounds) b) t G.run;
-        written = G.written ∙ ap (λ n. heard_bytes G.rounds ++ drop n before) h;
+        written = sym (take-append-drop (2 * i) after) ∙ ap₂ ◌++◌ G.front (G.back ∙ ap (λ n. drop n before) h);
       }

@@ -1,6 +1,6 @@
-ghost use Rattle.std.specs.Prelude.{◌≡◌, ℕ, ◌+◌, ◌<◌, false, [], ◌∷◌, length, MatchResult};
-ghost use Rattle.pcm.specs.Samples.{sample_wave, sample_bytes};
-ghost use Rattle.rig.specs.Limits.{page_length};
+ghost use Rattle.std.specs.Prelude.{◌≡◌, slice_index, MatchResult};
+ghost use Rattle.pcm.specs.Samples.{sample_wave};
+ghost use Rattle.rig.specs.Steps.{Ready};
 ghost use Rattle.rig.specs.Blocks.{Blockable, Unblocked, Blocked, Passed};
 
 use crate::pages::PAGE_LENGTH;
@@ -28,11 +28,11 @@ impl<P: Port, C: Closing> Rig<P, C> {
     }
 
     // One sample of a block.
-    fn pass(&mut self, low: u8, high: u8) -> [u8; 2]
-        requires { (self.old.raised ≡ false) × (self.old.tally.entries < page_length) }
-        ensures { Passed P.Port C.Closing self.old (sample_wave low high) result self.new }
+    fn pass(&mut self, sample: [u8; 2]) -> [u8; 2]
+        requires { Ready self.old }
+        ensures { Passed P.Port C.Closing self.old (sample_wave (slice_index sample 0) (slice_index sample 1)) result self.new }
     {
-        match self.feed(wave_of(low, high)) {
+        match self.feed(wave_of(sample)) {
             Ok(round) => bytes_of(round.heard),
             Err(_) => unreachable(),
         }
@@ -43,10 +43,10 @@ impl<P: Port, C: Closing> Rig<P, C> {
         ensures { Blocked P.Port C.Closing self.old input.now output.old result self.new output.new }
     {
         self.block_ready(input, output)?;
-        for i in 0..input.len() / 2 {
-            let out = self.pass(input[2 * i], input[2 * i + 1]);
-            output[2 * i] = out[0];
-            output[2 * i + 1] = out[1];
+        let (samples, _) = input.as_chunks();
+        for (i, sample) in samples.iter().enumerate() {
+            let heard = self.pass(*sample);
+            output[2 * i..2 * i + 2].copy_from_slice(&heard);
         }
         Ok(())
     }

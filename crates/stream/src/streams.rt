@@ -45,7 +45,7 @@ impl<P: Port, C: Closing> Stream<P, C> {
             }
             Some(low) => {
                 self.low = None;
-                match self.session.feed(wave_of(low, byte)) {
+                match self.session.feed(wave_of([low, byte])) {
                     Ok(entry) => {
                         let heard = bytes_of(entry.round.heard);
                         Pushed::Heard(heard[0], heard[1], entry.page)
