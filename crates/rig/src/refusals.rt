@@ -1,5 +1,6 @@
-ghost use Rattle.std.specs.Prelude.{◌≡◌};
 ghost use Rattle.rig.specs.Refusals.{row};
+
+use told::{Tells, Told};
 
 /// Why a call of a rig is refused.
 #[derive(Clone, Copy, Debug, PartialEq)]
@@ -16,29 +17,21 @@ pub enum Refusal {
     BlockLength,
 }
 
-impl Refusal {
-    pub fn layer(self) -> u32
-        ensures { result ≡ (row self).layer }
-    {
-        3
-    }
+impl Tells for Refusal {
+    ghost says = { row };
 
-    pub fn number(self) -> u32
-        ensures { result ≡ (row self).number }
-    {
-        match self {
-            Refusal::Beyond => 17,
-            Refusal::WaveOpen => 18,
-            Refusal::Misfit => 19,
-            Refusal::PageFull => 20,
-            Refusal::BlockLength => 21,
+    fn told(&self) -> Told {
+        Told {
+            layer: 3,
+            number: match self {
+                Refusal::Beyond => 17,
+                Refusal::WaveOpen => 18,
+                Refusal::Misfit => 19,
+                Refusal::PageFull => 20,
+                Refusal::BlockLength => 21,
+            },
+            // a call of a rig has no text, so its refusals have no place in one
+            place: 0,
         }
-    }
-
-    /// A call of a rig has no text, so its refusals have no place in one.
-    pub fn place(self) -> u32
-        ensures { result ≡ (row self).place }
-    {
-        0
     }
 }

@@ -9,12 +9,13 @@ ghost use Rattle.rig.specs.Steps.{Fits, Kept};
 use closing::Closing;
 use port::{Port, Resistor};
 use rig::{HandedBack, OpenWave, Refusal, Rig};
+use told::Tells;
 
 /// The number of a refusal, or 0.
 fn number<T: Drop>(answer: Result<T, Refusal>) -> u32 {
     match answer {
         Ok(_) => 0,
-        Err(why) => why.number(),
+        Err(why) => why.told().number,
     }
 }
 
@@ -23,32 +24,19 @@ fn while_open<P: Port, C: Closing>(rig: &mut Rig<P, C>, far: i32) -> [u32; 5]
     requires { rig.old.raised ≡ true }
     ensures { rig.new ≡ rig.old }
 {
-    let beyond = match rig.feed(far) {
-        Ok(_) => unreachable(),
-        Err(why) => why.number(),
-    };
-    let feed = match rig.feed(1) {
-        Ok(_) => unreachable(),
-        Err(why) => why.number(),
-    };
-    let raise = match rig.raise() {
-        Ok(_) => unreachable(),
-        Err(why) => why.number(),
-    };
-    let clear = match rig.clear() {
-        Ok(_) => unreachable(),
-        Err(why) => why.number(),
-    };
-    let turn = match rig.turn() {
-        Ok(_) => unreachable(),
-        Err(why) => why.number(),
-    };
-    [beyond, feed, raise, clear, turn]
+    let refusals = [
+        rig.feed(far).unwrap_err(),
+        rig.feed(1).unwrap_err(),
+        rig.raise().unwrap_err(),
+        rig.clear().unwrap_err(),
+        rig.turn().unwrap_err(),
+    ];
+    refusals.map(|why| why.told().number)
 }
 
 /// Ends a wave that fits.
 fn settle<P: Port, C: Closing>(rig: &mut Rig<P, C>, wave: OpenWave)
-    requires { Fits P.Port.reads rig.old wave }
+    requires { Fits P.Port rig.old wave }
     ensures { (rig.new.raised ≡ false) × (Kept rig.old rig.new) }
 {
     rig.withdraw(wave).unwrap();
@@ -59,16 +47,10 @@ fn foreign<P: Port, C: Closing>(rig: &mut Rig<P, C>, wave: OpenWave, f: i32) -> 
     requires { wave.number ≢ rig.old.number }
     ensures { (result.0 ≡ wave) × (rig.new ≡ rig.old) }
 {
-    let HandedBack { wave, refusal } = match rig.answer(wave, f) {
-        Ok(_) => unreachable(),
-        Err(back) => back,
-    };
-    let answered = refusal.number();
-    let HandedBack { wave, refusal } = match rig.withdraw(wave) {
-        Ok(_) => unreachable(),
-        Err(back) => back,
-    };
-    (wave, answered, refusal.number())
+    let HandedBack { wave, refusal } = rig.answer(wave, f).unwrap_err();
+    let answered = refusal.told().number;
+    let HandedBack { wave, refusal } = rig.withdraw(wave).unwrap_err();
+    (wave, answered, refusal.told().number)
 }
 
 /// What a rig over a resistor, which raises 0, answers to a wave of its own number that is not 0: it is handed back, and nothing changes.
@@ -76,13 +58,8 @@ fn other_wave<C: Closing>(rig: &mut Rig<Resistor, C>, wave: OpenWave, f: i32) ->
     requires { wave.rising.value ≢ pos 0 }
     ensures { (result.0 ≡ wave) × (rig.new ≡ rig.old) }
 {
-    match rig.answer(wave, f) {
-        Ok(_) => unreachable(),
-        Err(back) => {
-            let HandedBack { wave, refusal } = back;
-            (wave, refusal.number())
-        }
-    }
+    let HandedBack { wave, refusal } = rig.answer(wave, f).unwrap_err();
+    (wave, refusal.told().number)
 }
 
 #[cfg(test)]
@@ -164,7 +141,7 @@ mod tests {
     fn feed_zeros<P: Port, C: Closing>(rig: &mut Rig<P, C>, count: u32) -> u32 {
         for _ in 0..count {
             if let Err(why) = rig.feed(0) {
-                return why.number();
+                return why.told().number;
             }
         }
         0
@@ -179,7 +156,7 @@ mod tests {
                 settle(&mut rig, wave);
                 0
             }
-            Err(why) => why.number(),
+            Err(why) => why.told().number,
         };
         let mut out = [1, 2, 3];
         assert_eq!(rt; raised, 20);
