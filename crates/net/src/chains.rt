@@ -4,7 +4,7 @@ ghost use Rattle.net.specs.Wires.{at, touches as ends_at};
 ghost use Rattle.net.specs.Searches.{Untouched, NextAt};
 ghost use Rattle.net.specs.Choices.{Meet, AreChain, NoChain, FirstChain};
 
-use crate::wires::{Pair, Wire, Wired, wire_at};
+use crate::wires::{Pair, Wire, Wired};
 
 // The first branch from `start` on that ends at the node.
 fn next_at<B: Wired>(branches: &[B], node: usize, start: usize) -> Option<usize>
@@ -12,12 +12,12 @@ fn next_at<B: Wired>(branches: &[B], node: usize, start: usize) -> Option<usize>
         (Untouched (map B.Wired.wired branches.now) node start (length branches.now))
         (NextAt (map B.Wired.wired branches.now) node start) }
 {
-    for k in start..branches.len() {
-        if wire_at(branches, k).touches(node) {
-            return Some(k);
-        }
-    }
-    None
+    let past = branches
+        .iter()
+        .map(|b| b.wire())
+        .skip(start)
+        .position(|w| w.touches(node))?;
+    Some(start + past)
 }
 
 // The two branches that alone end at the node.
@@ -26,16 +26,12 @@ fn pair_at<B: Wired>(branches: &[B], node: usize) -> Option<Pair>
         ((p : PairIs) → Meet (map B.Wired.wired branches.now) node p → ⊥)
         (Meet (map B.Wired.wired branches.now) node) }
 {
-    let Some(low) = next_at(branches, node, 0) else {
-        return None;
-    };
-    let Some(high) = next_at(branches, node, low + 1) else {
-        return None;
-    };
-    if let Some(_) = next_at(branches, node, high + 1) {
-        return None;
+    let low = next_at(branches, node, 0)?;
+    let high = next_at(branches, node, low + 1)?;
+    match next_at(branches, node, high + 1) {
+        Some(_) => None,
+        None => Some(Pair { low, high }),
     }
-    Some(Pair { low, high })
 }
 
 // The two branches that make a chain at the node.
@@ -47,11 +43,9 @@ fn chain_at<B: Wired>(branches: &[B], port: Wire, node: usize) -> Option<Pair>
     if port.touches(node) {
         return None;
     }
-    let Some(pair) = pair_at(branches, node) else {
-        return None;
-    };
-    let left = wire_at(branches, pair.low).far(node);
-    let right = wire_at(branches, pair.high).far(node);
+    let pair = pair_at(branches, node)?;
+    let left = branches[pair.low].wire().far(node);
+    let right = branches[pair.high].wire().far(node);
     if left == right {
         return None;
     }
@@ -62,12 +56,14 @@ fn chain_at<B: Wired>(branches: &[B], port: Wire, node: usize) -> Option<Pair>
 fn largest_node<B: Wired>(branches: &[B]) -> usize
     ensures { (k n : ℕ) → k < length branches.now → ends_at n (at (map B.Wired.wired branches.now) k) ≡ true → n ≤ result }
 {
-    let mut largest: usize = 0;
-    for k in 0..branches.len() {
-        let wire = wire_at(branches, k);
-        largest = largest.max(wire.from).max(wire.to);
-    }
-    largest
+    branches
+        .iter()
+        .map(|b| {
+            let wire = b.wire();
+            wire.from.max(wire.to)
+        })
+        .max()
+        .unwrap_or(0)
 }
 
 // The chain that is taken where there are no twins, and its node.

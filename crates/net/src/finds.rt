@@ -3,7 +3,7 @@ ghost use Rattle.net.specs.Searches.{Unlike, Partner};
 ghost use Rattle.net.specs.Choices.{NoTwins, TakenTwins, Takes, Stuck, OneChoice};
 
 use crate::chains::find_chain;
-use crate::wires::{Choice, Pair, Wire, Wired, wire_at};
+use crate::wires::{Choice, Pair, Wire, Wired};
 
 // The first branch past `low` with the ends of that one.
 fn partner<B: Wired>(branches: &[B], low: usize) -> Option<usize>
@@ -12,13 +12,13 @@ fn partner<B: Wired>(branches: &[B], low: usize) -> Option<usize>
         (Unlike (map B.Wired.wired branches.now) low (length branches.now))
         (Partner (map B.Wired.wired branches.now) low) }
 {
-    let wire = wire_at(branches, low);
-    for high in low + 1..branches.len() {
-        if wire.same_ends(wire_at(branches, high)) {
-            return Some(high);
-        }
-    }
-    None
+    let wire = branches[low].wire();
+    let past = branches
+        .iter()
+        .map(|b| b.wire())
+        .skip(low + 1)
+        .position(|w| wire.same_ends(w))?;
+    Some(low + 1 + past)
 }
 
 // The twins that are taken.
@@ -27,6 +27,7 @@ pub(crate) fn find_twins<B: Wired>(branches: &[B]) -> Option<Pair>
         (NoTwins (map B.Wired.wired branches.now))
         (TakenTwins (map B.Wired.wired branches.now)) }
 {
+    // Kept: what `find_map` over a range answers is told by its calls alone, and the proof of that is longer than this loop.
     for low in 0..branches.len() {
         if let Some(high) = partner(branches, low) {
             return Some(Pair { low, high });

@@ -1,23 +1,24 @@
-ghost use Rattle.std.specs.Prelude.{◌≡◌, ℕ, ◌<◌, map, length};
+ghost use Rattle.std.specs.Prelude.{◌≡◌};
 ghost use Rattle.net.specs.declared.wires.Wire.{Wire as WireIs};
-ghost use Rattle.net.specs.Wires.{same_ends, touches, far, at};
+ghost use Rattle.net.specs.Wires.{same_ends, touches, far};
+ghost use Rattle.net.specs.Choices.{chosen_pair};
 
 /// The two ends of a branch, by the numbers of their nodes.
-#[derive(Clone, Copy)]
+#[derive(Clone, Copy, Debug, PartialEq, Eq)]
 pub struct Wire {
     pub from: usize,
     pub to: usize,
 }
 
 /// Two branches, by their places in the list.
-#[derive(Clone, Copy)]
+#[derive(Clone, Copy, Debug, PartialEq, Eq)]
 pub struct Pair {
     pub low: usize,
     pub high: usize,
 }
 
 /// Which two branches are joined next.
-#[derive(Clone, Copy)]
+#[derive(Clone, Copy, Debug, PartialEq, Eq)]
 pub enum Choice {
     /// Two that have the same two ends.
     Twins(Pair),
@@ -61,10 +62,13 @@ impl Wire {
     }
 }
 
-// The ends of the branch at place k.
-pub(crate) fn wire_at<B: Wired>(branches: &[B], k: usize) -> Wire
-    requires { k < length branches.now }
-    ensures { result ≡ at (map B.Wired.wired branches.now) k }
-{
-    branches[k].wire()
+impl Choice {
+    /// The two branches that are joined.
+    pub fn pair(self) -> Pair
+        ensures { result ≡ chosen_pair self }
+    {
+        match self {
+            Choice::Twins(pair) | Choice::Chain(pair, _) => pair,
+        }
+    }
 }
