@@ -15,7 +15,6 @@ use Rattle.assembly.specs.declared.faults.AssemblyFault.{AssemblyFault}
 use Rattle.assembly.specs.declared.faults.AssemblyFault.TheVariants.{Reading, OutOfRange, BadWeight, Irreducible, TooLarge, NoEar}
 use Rattle.assembly.proofs.OneTree.{one_tree, not_both}
 use Rattle.assembly.proofs.Begun.{blank}
-use Rattle.assembly.proofs.InRange.{all_sized}
 
 pub one_end : OneEnd
 one_end port bs = one_answer Joins Refused port (λ c a b m n. one_tree (way_for c) a b m n) (λ c a b m. not_both (way_for c) a b m) bs
@@ -27,7 +26,7 @@ moved P {r} {r'} {u} {u'} {l} {l'} {w} {w'} a b c d x =
 pub refused : (t name : List ℕ) (rate unit : ℕ) (d : Listing) (ear : Option ℕ) (f : AssemblyFault) → reader.Reads t d → Scaled rate unit → EarIs t d.elements name ear → Ungrown rate unit ear d.elements (port_of d) f → Refuses t rate unit name f
 refused t name rate unit d ear (Reading g) r s e u = absurd u
 refused t name rate unit d ear OutOfRange r s e u = absurd u
-refused t name rate unit d ear (BadWeight p) r s e u = (d, r, s, u (all_sized t d r))
+refused t name rate unit d ear (BadWeight p) r s e u = (d, r, s, u)
 refused t name rate unit d ear (TooLarge p) r s e u = (d, u.0, record { read = r; scaled = s; ear = ear; eared = e; begins = u.1 }, u.2)
 refused t name rate unit d ear Irreducible r s e u = (d, u.0, record { read = r; scaled = s; ear = ear; eared = e; begins = u.1 }, u.2)
 refused t name rate unit d ear NoEar r s e u = absurd u

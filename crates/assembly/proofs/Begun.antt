@@ -8,6 +8,7 @@ use Rattle.wave.specs.declared.weights.WeightRefusal.{WeightRefusal}
 use Rattle.wave.specs.declared.weights.WeightRefusal.TheVariants as refusals
 use Rattle.values.specs.declared.Kind.{Kind}
 use Rattle.values.specs.declared.Kind.TheVariants.{Resistor, Capacitor, Coil}
+use Rattle.values.proofs.OneValue.{some_value}
 use Rattle.reader.specs.declared.Element.{Element}
 use Rattle.tree.specs.Models.{Model, reads}
 use Rattle.tree.specs.Elements.{body_reads}
@@ -24,7 +25,7 @@ no_weight w refusals.Outside h = h
 
 -- what stands in for an element past the end
 abbrev pub blank : Element
-blank = record { name = record { place = 0; len = 0 }; kind = Resistor; ends = record { from = record { index = 0 }; to = record { index = 0 } }; value = 0 }
+blank = record { name = record { place = 0; len = 0 }; kind = Resistor; ends = record { from = record { index = 0 }; to = record { index = 0 } }; value = some_value }
 
 -- ---- sums over leaves
 body_size : (b : Body) → (body_reads b).size ≡ 1

@@ -2,5 +2,4 @@ pub mod Sums
 pub mod OneTree
 pub mod Stepped
 pub mod Begun
-pub mod InRange
 pub mod Answered

@@ -30,7 +30,7 @@ hears None k = false
 hears (Some i) k = i == k
 
 abbrev pub weight_of_element : ℕ → ℕ → reader.Element → ℕ
-weight_of_element rate unit e = weight e.kind e.value rate unit
+weight_of_element rate unit e = weight e.kind e.value.value rate unit
 
 -- the element e, the k-th of its listing, as a branch
 pub record BeginsAs (rate unit : ℕ) (ear : Option ℕ) (k : ℕ) (e : reader.Element) (b : Edge Model) : Type 0 where

@@ -1,6 +1,6 @@
 -- What the inner calls of a reduction promise.
-use Rattle.std.specs.Prelude.{◌≡◌, ℕ, ◌≤◌, Bool, cond, List, length, Some, None, sum_by, Option, nat_lt, slice_set}
-use Rattle.std.specs.List.{AllWithin, remove}
+use Rattle.std.specs.Prelude.{◌≡◌, ℕ, ◌≤◌, Bool, cond, List, Some, None, sum_by, Option, nat_lt, slice_set}
+use Rattle.std.specs.List.{remove}
 use Rattle.port.specs.Meaning.{largest_size}
 use Rattle.tree.specs.Models.{Model, reads}
 use Rattle.net.specs.Wires.{far}
@@ -10,7 +10,6 @@ use Rattle.net.specs.declared.wires.Wire.{Wire}
 use Rattle.net.specs.declared.wires.Choice.{Choice}
 use Rattle.net.specs.declared.wires.Choice.TheVariants.{Twins, Chain}
 use Rattle.reader.specs.declared.Element as reader
-use Rattle.weights.specs.Limits.{Sized}
 use Rattle.tree.specs.declared.elements.Element.{Element}
 use Rattle.assembly.specs.Branches.{Joins, Refused}
 use Rattle.assembly.specs.Beginnings.{BodyIs, weight_of_element, Begins, Outside, Unweighable}
@@ -58,9 +57,6 @@ pub record LeafIs (rate unit index : ℕ) (ear : Bool) (e : reader.Element) (x :
   pub body : BodyIs e.kind (weight_of_element rate unit e) ear x.body
   pub inside : Outside (weight_of_element rate unit e) → ⊥
 
-abbrev pub AllSized : List reader.Element → Type 0
-AllSized es = AllWithin (λ e. Sized e.value) es 0 (length es)
-
 -- 1 once the ear has been passed
 abbrev pub passed : Option ℕ → ℕ → ℕ
 passed None k = 0
@@ -75,7 +71,7 @@ pub record GrownFrom (rate unit : ℕ) (ear : Option ℕ) (es : List reader.Elem
 abbrev pub Ungrown : ℕ → ℕ → Option ℕ → List reader.Element → Wire → AssemblyFault → Type 0
 Ungrown rate unit ear es port (Reading f) = ⊥
 Ungrown rate unit ear es port OutOfRange = ⊥
-Ungrown rate unit ear es port (BadWeight p) = AllSized es → Unweighable rate unit es p
+Ungrown rate unit ear es port (BadWeight p) = Unweighable rate unit es p
 Ungrown rate unit ear es port (TooLarge p) = (bs : List (Edge Model)) × Begins rate unit ear es bs × EndsOver Joins Refused port bs p
 Ungrown rate unit ear es port Irreducible = (bs : List (Edge Model)) × Begins rate unit ear es bs × EndsLeft Joins Refused port bs
 Ungrown rate unit ear es port NoEar = ⊥

@@ -1,10 +1,9 @@
 ghost use Rattle.std.specs.Prelude.{◌≡◌, ℕ, ◌<◌, ◌≤◌, length, vec_len, vec_capacity, MatchOption, MatchResult};
 ghost use Rattle.wave.specs.Refusals.{NoWeight};
-ghost use Rattle.weights.specs.Limits.{Sized};
 ghost use Rattle.assembly.specs.Limits.{most_branches};
 ghost use Rattle.assembly.specs.Branches.{edges};
 ghost use Rattle.assembly.specs.Beginnings.{BodyIs, hears, weight_of_element, Begins, Outside, Unweighable, EarIs};
-ghost use Rattle.assembly.specs.Inner.{Fit, LeafIs, AllSized};
+ghost use Rattle.assembly.specs.Inner.{Fit, LeafIs};
 
 use crate::branches::Branch;
 use names::find;
@@ -14,18 +13,15 @@ use reader::Element;
 use tree::{Body, Element as Leaf, ListingTree};
 use values::Kind;
 use wave::{LARGEST_WEIGHT, WeightRefusal};
-use weights::{Scale, Size, weight_of};
+use weights::Scale;
 
 // The weight of an element, none where it is outside.
 fn weighed(element: &Element, scale: Scale) -> Option<u32>
     ensures { MatchOption result
-        (Sized element.now.value → Outside (weight_of_element scale.rate scale.unit element.now))
+        (Outside (weight_of_element scale.rate scale.unit element.now))
         (λ w. (w ≡ weight_of_element scale.rate scale.unit element.now) × (Outside w → ⊥)) }
 {
-    let Some(size) = Size::new(element.value) else {
-        return None;
-    };
-    let weight = weight_of(element.kind, size, scale);
+    let weight = scale.weight_of(element.kind, element.value);
     if weight == 0 || weight > LARGEST_WEIGHT as u64 {
         return None;
     }
@@ -54,7 +50,7 @@ fn body_of(kind: Kind, weight: u32, ear: bool) -> Result<Body, WeightRefusal>
 // An element as a leaf at rest, none where its weight is outside.
 fn leaf_of(element: &Element, index: u32, ear: bool, scale: Scale) -> Option<Leaf>
     ensures { MatchOption result
-        (Sized element.now.value → Outside (weight_of_element scale.rate scale.unit element.now))
+        (Outside (weight_of_element scale.rate scale.unit element.now))
         (LeafIs scale.rate scale.unit index ear element.now) }
 {
     let Some(weight) = weighed(element, scale) else {
@@ -88,7 +84,7 @@ pub(crate) fn begin(
     ensures { MatchResult result
         (λ _. Begins scale.rate scale.unit ear elements.now (edges branches.new.items) × Fit (edges branches.new.items)
         × (vec_len branches.new ≡ length elements.now))
-        (λ p. AllSized elements.now → Unweighable scale.rate scale.unit elements.now p) }
+        (λ p. Unweighable scale.rate scale.unit elements.now p) }
 {
     for index in 0..elements.len() {
         let element = elements[index];

@@ -35,7 +35,7 @@ fn print_listing(rt: &HostRuntime, text: &[u8], listing: &Listing) -> io::Result
         let name = name_of(heap, text, element.name)?;
         let from = node_of(heap, text, listing, element.ends.from)?;
         let to = node_of(heap, text, listing, element.ends.to)?;
-        let value = element.value;
+        let value = element.value.get();
         let unit = element.kind.unit();
         println!(rt; "{kind} {name} {from} {to} {value} {unit}")?;
     }

@@ -34,11 +34,11 @@ mod tests {
         assert!(rt; elements[2].name.place == 36);
         assert!(rt; elements[2].name.len == 2);
         assert!(rt; elements[0].kind == Kind::Coil);
-        assert!(rt; elements[0].value == 100_000);
+        assert!(rt; elements[0].value.get() == 100_000);
         assert!(rt; elements[1].kind == Kind::Capacitor);
-        assert!(rt; elements[1].value == 100_000);
+        assert!(rt; elements[1].value.get() == 100_000);
         assert!(rt; elements[2].kind == Kind::Resistor);
-        assert!(rt; elements[2].value == 600);
+        assert!(rt; elements[2].value.get() == 600);
         Ok(())
     }
 

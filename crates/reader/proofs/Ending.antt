@@ -7,6 +7,7 @@ use Rattle.cut.specs.Cuts.{bytes, LineTo, FieldsIn}
 use Rattle.cut.specs.declared.Span.{Span}
 use Rattle.values.specs.declared.Kind.{Kind}
 use Rattle.values.specs.declared.Kind.TheVariants.{Resistor}
+use Rattle.values.proofs.OneValue.{some_value}
 use Rattle.reader.specs.declared.LineKind.{LineKind}
 use Rattle.reader.specs.declared.LineKind.TheVariants.{Part, Port}
 use Rattle.refusals.specs.declared.Rule.{Rule}
@@ -157,7 +158,7 @@ module _ {t : List ℕ} {q : ℕ} {closed : Bool} {ns : List Node} {es : List El
 
   pub read_whole : (p : PortRecord) → port ≡ Some p → closed ≡ true → (length es ≡ 0 → ⊥) → Whole t ns es p
   read_whole p is shut more =
-      let e₀ : Element = record { name = record { place = 0; len = 0 }; kind = Resistor; ends = record { from = record { index = 0 }; to = record { index = 0 } }; value = 0 } in
+      let e₀ : Element = record { name = record { place = 0; len = 0 }; kind = Resistor; ends = record { from = record { index = 0 }; to = record { index = 0 } }; value = some_value } in
       let one : 0 < length es = ⊎_elim (λ e. absurd (more e)) (⊎_elim (λ l. absurd (omega arith)) (λ l. l)) (cases_order (length es) 0) in
       record {
         clean = λ p' r. ⊎_elim (no_size p' r) (⊎_elim (whole.clean p' r) (λ y.

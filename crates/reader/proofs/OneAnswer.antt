@@ -5,6 +5,7 @@ use Rattle.cut.specs.Cuts.{bytes}
 use Rattle.cut.specs.declared.Span.{Span}
 use Rattle.values.specs.Values.{Valued}
 use Rattle.values.proofs.Numerals.{valued_same}
+use Rattle.values.proofs.OneValue.{same_value}
 use Rattle.refusals.specs.declared.Rule.{Rule}
 use Rattle.refusals.specs.declared.Rule.TheVariants.{Size, TooLong, Shape, BadName, BadValue, OutOfRange, Twice, Full, Wanting, Joined}
 use Rattle.reader.specs.declared.LineKind.TheVariants.{Part}
@@ -32,7 +33,7 @@ element_once t ns l x y a b =
     let s : x.kind ≡ y.kind = cc in
     let f = number_once t ns (nth l.fields 1) x.ends.from.index y.ends.from.index a.from b.from in
     let o = number_once t ns (nth l.fields 2) x.ends.to.index y.ends.to.index a.to b.to in
-    let v = valued_same y.kind (bytes t (nth l.fields 3)) x.value y.value (subst (λ c. Valued c (bytes t (nth l.fields 3)) x.value) s a.value) b.value in
+    let v = same_value x.value y.value (valued_same y.kind (bytes t (nth l.fields 3)) x.value.value y.value.value (subst (λ c. Valued c (bytes t (nth l.fields 3)) x.value.value) s a.value) b.value) in
     λ i. record { name = n i; kind = s i; ends = record { from = record { index = f i }; to = record { index = o i } }; value = v i }
 
 port_once : (t : List ℕ) (ns : List Node) (l : Line) (x y : PortRecord) → PortIs t ns l x → PortIs t ns l y → x ≡ y

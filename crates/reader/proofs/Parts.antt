@@ -6,7 +6,8 @@ use Rattle.std.proofs.lemmas.List.{get_or_append_left, get_or_default, get_or_pu
 use Rattle.cut.specs.Cuts.{bytes}
 use Rattle.cut.specs.declared.Span.{Span}
 use Rattle.names.specs.Alike.{Alike}
-use Rattle.values.specs.Values.{Valued, ValueFault, InRange}
+use Rattle.values.specs.Values.{Valued, ValueFault}
+use Rattle.values.specs.declared.counted.Value.{Value}
 use Rattle.values.specs.declared.Kind.{Kind}
 use Rattle.values.specs.declared.Wrong.{Wrong}
 use Rattle.values.proofs.Numerals.{value_fine, fault_only}
@@ -27,10 +28,10 @@ pub same_part : (kd : LineKind) (s s' : Kind) → kd ≡ Part s → kd ≡ Part 
 same_part kd s s' a b = cc
 
 module _ (t : List ℕ) (kd : LineKind) (fs : List Span) (s : Kind) (bs : List ℕ) (is : kd ≡ Part s) (e : bs ≡ bytes t (nth fs 3)) where
-  pub value_right : (v : ℕ) → Valued s bs v → InRange v → Least (ValueFaultAt t kd fs) None × ValueIs t kd fs (Some v)
-  value_right v h l =
-      let h' = subst (λ b. Valued s b v) e h in (
-        λ p r x. value_fine s (bytes t (nth fs 3)) v h' l x.1.1 (subst (λ c. ValueFault c (bytes t (nth fs 3)) x.1.1) (same_part kd x.1.0 s x.1.2 is) x.1.4),
+  pub value_right : (v : Value) → Valued s bs v.value → Least (ValueFaultAt t kd fs) None × ValueIs t kd fs (Some v)
+  value_right v h =
+      let h' = subst (λ b. Valued s b v.value) e h in (
+        λ p r x. value_fine s (bytes t (nth fs 3)) v.value h' v.within x.1.1 (subst (λ c. ValueFault c (bytes t (nth fs 3)) x.1.1) (same_part kd x.1.0 s x.1.2 is) x.1.4),
         (s, is, h'),
       )
 

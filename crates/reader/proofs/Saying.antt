@@ -5,6 +5,7 @@ use Rattle.std.proofs.lemmas.Bool.{cases_lt}
 use Rattle.cut.specs.Cuts.{bytes, FieldsIn}
 use Rattle.cut.specs.declared.Span.{Span}
 use Rattle.values.specs.Values.{Valued}
+use Rattle.values.specs.declared.counted.Value.{Value}
 use Rattle.values.specs.declared.Kind.{Kind}
 use Rattle.refusals.specs.declared.Rule.{Rule}
 use Rattle.refusals.specs.declared.Rule.TheVariants.{Shape}
@@ -55,8 +56,8 @@ module _ (t : List ℕ) (a b : ℕ) (closed : Bool) (es : List Element) (ported 
   abbrev Plain : ℕ → Rule → Type 0
   Plain = PlainFault t a b few kd (Among (λ e. e.name) t es (bytes t (nth few 0))) (most_elements ≤ length es) (ported ≡ true)
 
-  abbrev Value : ℕ → Rule → Type 0
-  Value = ValueFaultAt t kd few
+  abbrev Valueless : ℕ → Rule → Type 0
+  Valueless = ValueFaultAt t kd few
 
   abbrev Both : ℕ → Rule → Type 0
   Both = EndsFault t kd few (CrowdedFirst t ns few) (CrowdedSecond t ns few)
@@ -65,14 +66,14 @@ module _ (t : List ℕ) (a b : ℕ) (closed : Bool) (es : List Element) (ported 
   stands_few = is ∙ ap (standing a closed) (kind_few t a b few fs cut e)
 
   -- the first fault is the first of those of the parts
-  pub first_fault : (A : Option ℕ → Type 0) (B : Option Ends → Type 0) (o p s v x : Option Fault) (rv : Result (Option ℕ) Fault) (rx : Result (Option Ends) Fault)
+  pub first_fault : (A : Option Value → Type 0) (B : Option Ends → Type 0) (o p s v x : Option Fault) (rv : Result (Option Value) Fault) (rx : Result (Option Ends) Fault)
       → o ≡ first_of p s → s ≡ first_of v x → v ≡ result_err rv → x ≡ result_err rx
-      → Least Plain p → MatchResult rv (λ v. Least Value None × A v) (λ f. Least Value (Some f)) → MatchResult rx (λ v. Least Both None × B v) (λ f. Least Both (Some f))
+      → Least Plain p → MatchResult rv (λ v. Least Valueless None × A v) (λ f. Least Valueless (Some f)) → MatchResult rx (λ v. Least Both None × B v) (λ f. Least Both (Some f))
       → Least (FewFault t a b es ported ns few kd) o
   first_fault A B o p s v x rv rx eo es' ev ex hp hv hx =
       subst (Least (FewFault t a b es ported ns few kd)) (sym (eo ∙ ap (first_of p) es'))
-      (least_either Plain (λ q r. Value q r ⊎ Both q r) p (first_of v x) hp
-      (least_either Value Both v x (subst (Least Value) (sym ev) (err_least Value A rv hv)) (subst (Least Both) (sym ex) (err_least Both B rx hx))))
+      (least_either Plain (λ q r. Valueless q r ⊎ Both q r) p (first_of v x) hp
+      (least_either Valueless Both v x (subst (Least Valueless) (sym ev) (err_least Valueless A rv hv)) (subst (Least Both) (sym ex) (err_least Both B rx hx))))
 
   pub reader_least : (o : Option Fault) → Least (FewFault t a b es ported ns few kd) o → Least (ReaderFault t a b closed es ported ns fs) o
   reader_least o h =
@@ -83,8 +84,8 @@ module _ (t : List ℕ) (a b : ℕ) (closed : Bool) (es : List Element) (ported 
     pub wide : width kd ≤ length few
     wide = ⊎_elim (λ l. absurd (none b Shape (inl (inr (inr (inl (refl, (l, refl)))))))) (λ l. l) (cases_lt (length few) (width kd))
 
-    pub value_sure : (A : Option ℕ → Type 0) (r : Result (Option ℕ) Fault) → MatchResult r (λ v. Least Value None × A v) (λ f. Least Value (Some f)) → is_ok r ≡ true
-    value_sure A r h = ok_sure Value (FewFault t a b es ported ns few kd) A r h (λ p x y. inr (inl y)) none
+    pub value_sure : (A : Option Value → Type 0) (r : Result (Option Value) Fault) → MatchResult r (λ v. Least Valueless None × A v) (λ f. Least Valueless (Some f)) → is_ok r ≡ true
+    value_sure A r h = ok_sure Valueless (FewFault t a b es ported ns few kd) A r h (λ p x y. inr (inl y)) none
 
     pub ends_sure : (A : Option Ends → Type 0) (r : Result (Option Ends) Fault) → MatchResult r (λ v. Least Both None × A v) (λ f. Least Both (Some f)) → is_ok r ≡ true
     ends_sure A r h = ok_sure Both (FewFault t a b es ported ns few kd) A r h (λ p x y. inr (inr y)) none
@@ -94,7 +95,7 @@ module _ (t : List ℕ) (a b : ℕ) (closed : Bool) (es : List Element) (ported 
     ends_there ns' None c h = absurd (h.1 c (two kd c wide))
     ends_there ns' (Some x) c h = refl
 
-    pub value_there : (s : Kind) (o : Option ℕ) → kd ≡ Part s → ValueIs t kd few o → is_some o ≡ true
+    pub value_there : (s : Kind) (o : Option Value) → kd ≡ Part s → ValueIs t kd few o → is_some o ≡ true
     value_there s None k h = absurd (h s k (let l : 4 ≤ length few = subst (λ d. width d ≤ length few) k wide in omega arith))
     value_there s (Some v) k h = refl
 
@@ -103,13 +104,13 @@ module _ (t : List ℕ) (a b : ℕ) (closed : Bool) (es : List Element) (ported 
         let F : Span → Span → Type 0 = λ f g. (mid : List Node) × Entered t ns f mid × Entered t mid g ns' × NumberIs t ns' f x.from.index × NumberIs t ns' g x.to.index in
         subst (λ f. F f (nth fs 2)) (nth_few t a b few fs cut e 1 (omega arith)) (subst (λ g. F (nth few 1) g) (nth_few t a b few fs cut e 2 (omega arith)) h.1)
 
-    pub part_says : (s : Kind) (ns' : List Node) (x : Ends) (v : ℕ) → kd ≡ Part s → EndsAre t kd few ns ns' (Some x) → ValueIs t kd few (Some v)
-        → (standing a closed (kind_of_line t fs) ≡ Part s) × (nth few 0 ≡ nth fs 0) × BothEnds t fs ns ns' x × Valued s (bytes t (nth fs 3)) v
+    pub part_says : (s : Kind) (ns' : List Node) (x : Ends) (v : Value) → kd ≡ Part s → EndsAre t kd few ns ns' (Some x) → ValueIs t kd few (Some v)
+        → (standing a closed (kind_of_line t fs) ≡ Part s) × (nth few 0 ≡ nth fs 0) × BothEnds t fs ns ns' x × Valued s (bytes t (nth fs 3)) v.value
     part_says s ns' x v k he hv = (
       sym stands_few ∙ k,
       nth_few t a b few fs cut e 0 (omega arith),
       both_ends ns' x he,
-      subst (λ f. Valued s (bytes t f) v) (nth_few t a b few fs cut e 3 (omega arith)) (subst (λ s'. Valued s' (bytes t (nth few 3)) v) (same_part kd hv.0 s hv.1 k) hv.2),
+      subst (λ f. Valued s (bytes t f) v.value) (nth_few t a b few fs cut e 3 (omega arith)) (subst (λ s'. Valued s' (bytes t (nth few 3)) v.value) (same_part kd hv.0 s hv.1 k) hv.2),
     )
 
     pub port_says : (ns' : List Node) (x : Ends) → kd ≡ Port → EndsAre t kd few ns ns' (Some x) → (standing a closed (kind_of_line t fs) ≡ Port) × (nth few 0 ≡ nth fs 0) × BothEnds t fs ns ns' x

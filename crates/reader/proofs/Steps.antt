@@ -13,6 +13,7 @@ use Rattle.cut.proofs.Same.{fields_ascend, line_apart}
 use Rattle.values.specs.declared.Kind.TheVariants.{Resistor}
 use Rattle.refusals.specs.declared.Rule.{Rule}
 use Rattle.refusals.specs.declared.Fault.{Fault}
+use Rattle.values.proofs.OneValue.{some_value}
 use Rattle.reader.specs.declared.Element.{Element}
 use Rattle.reader.specs.declared.Node.{Node}
 use Rattle.reader.specs.declared.PortRecord.{PortRecord}
@@ -30,7 +31,7 @@ use Rattle.reader.proofs.Uses.{entered_some, nodes_still, nodes_step}
 use Rattle.reader.proofs.Entering.{number_later}
 
 nobody : Element
-nobody = record { name = nowhere; kind = Resistor; ends = record { from = record { index = 0 }; to = record { index = 0 } }; value = 0 }
+nobody = record { name = nowhere; kind = Resistor; ends = record { from = record { index = 0 }; to = record { index = 0 } }; value = some_value }
 
 -- a line before q is a line before any later place
 pub later : (t : List ℕ) (q q' : ℕ) (l : Line) → q ≤ q' → LineIn t q l → LineIn t q' l

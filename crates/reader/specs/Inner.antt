@@ -3,6 +3,7 @@ use Rattle.std.specs.Prelude.{◌≡◌, ℕ, ◌+◌, ◌<◌, ◌≤◌, Bool,
 use Rattle.cut.specs.Cuts.{bytes, FieldsIn}
 use Rattle.cut.specs.declared.Span.{Span}
 use Rattle.values.specs.Values.{Valued}
+use Rattle.values.specs.declared.counted.Value.{Value}
 use Rattle.values.specs.declared.Kind.{Kind}
 use Rattle.refusals.specs.declared.Rule.{Rule}
 use Rattle.reader.specs.declared.LineKind.{LineKind}
@@ -57,14 +58,14 @@ EndsAre t kd fs ns ns' None = ((Carries kd → ⊥) → ns' ≡ ns) × (Carries 
 EndsAre t kd fs ns ns' (Some e) = Carries kd × BothEnds t fs ns ns' e
 
 -- the value of an element line; none where the line is of another kind or has no fourth field
-abbrev pub ValueIs : List ℕ → LineKind → List Span → Option ℕ → Type 0
+abbrev pub ValueIs : List ℕ → LineKind → List Span → Option Value → Type 0
 ValueIs t kd fs None = (s : Kind) → kd ≡ Part s → 3 < length fs → ⊥
-ValueIs t kd fs (Some v) = (s : Kind) × (kd ≡ Part s) × Valued s (bytes t (nth fs 3)) v
+ValueIs t kd fs (Some v) = (s : Kind) × (kd ≡ Part s) × Valued s (bytes t (nth fs 3)) v.value
 
 -- what a line says that stands as kd
 abbrev pub Says : List ℕ → LineKind → List Span → List Node → List Node → Statement → Type 0
 Says t kd fs ns ns' Passes = ((kd ≡ Passed) ⊎ (kd ≡ Strange)) × (ns' ≡ ns)
-Says t kd fs ns ns' (Adds e) = (kd ≡ Part e.kind) × (e.name ≡ nth fs 0) × BothEnds t fs ns ns' e.ends × Valued e.kind (bytes t (nth fs 3)) e.value
+Says t kd fs ns ns' (Adds e) = (kd ≡ Part e.kind) × (e.name ≡ nth fs 0) × BothEnds t fs ns ns' e.ends × Valued e.kind (bytes t (nth fs 3)) e.value.value
 Says t kd fs ns ns' (Opens p) = (kd ≡ Port) × (p.name ≡ nth fs 0) × BothEnds t fs ns ns' p.ends
 Says t kd fs ns ns' Closes = (kd ≡ Close) × (ns' ≡ ns)
 

@@ -60,7 +60,7 @@ pub record ElementIs (t : List ℕ) (ns : List Node) (l : Line) (e : Element) : 
   pub name : e.name ≡ nth l.fields 0
   pub from : NumberIs t ns (nth l.fields 1) e.ends.from.index
   pub to : NumberIs t ns (nth l.fields 2) e.ends.to.index
-  pub value : Valued e.kind (bytes t (nth l.fields 3)) e.value
+  pub value : Valued e.kind (bytes t (nth l.fields 3)) e.value.value
 
 -- p is what a port line says
 pub record PortIs (t : List ℕ) (ns : List Node) (l : Line) (p : PortRecord) : Type 0 where

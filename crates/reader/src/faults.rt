@@ -13,7 +13,7 @@ use crate::{Element, LARGEST_LINE, LineKind, MOST_ELEMENTS};
 use cut::Span;
 use names::find;
 use refusals::{Fault, Rule, sooner};
-use values::{Wrong, value_of};
+use values::{Value, Wrong, value_of};
 
 fn long_fault(line: Span) -> Option<Fault>
     requires { stop_of line < 18446744073709551616 }
@@ -62,7 +62,7 @@ fn rule_of(wrong: Wrong) -> Rule
 }
 
 // The value of an element, none where the line is of another kind or has no fourth field.
-pub(crate) fn value_at(text: &[u8], kind: LineKind, fields: &[Span]) -> Result<Option<u32>, Fault>
+pub(crate) fn value_at(text: &[u8], kind: LineKind, fields: &[Span]) -> Result<Option<Value>, Fault>
     ensures { MatchResult result
         (λ v. Least (ValueFaultAt text.now kind fields.now) None × ValueIs text.now kind fields.now v)
         (λ f. Least (ValueFaultAt text.now kind fields.now) (Some f)) }

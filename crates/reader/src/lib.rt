@@ -10,7 +10,7 @@ mod words;
 use cut::Span;
 use fixed::Fixed;
 pub use reading::read;
-use values::Kind;
+use values::{Kind, Value};
 
 // The largest number of bytes of a text, of a line before its line feed, and of a name.
 const LARGEST_TEXT: usize = 16_384;
@@ -59,7 +59,7 @@ pub struct Element {
     pub name: Span,
     pub kind: Kind,
     pub ends: Ends,
-    pub value: u32,
+    pub value: Value,
 }
 
 // What a port line says.

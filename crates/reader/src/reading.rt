@@ -14,7 +14,7 @@ use crate::{
 use cut::{Span, fields_of, line_end};
 use fixed::Fixed;
 use refusals::{Fault, Rule, sooner};
-use values::Kind;
+use values::{Kind, LEAST_VALUE};
 
 // What the line says, or its first fault.
 fn statement(
@@ -87,7 +87,7 @@ pub fn read(text: &[u8]) -> Result<Listing, Fault>
             from: FIRST,
             to: FIRST,
         },
-        value: 0,
+        value: LEAST_VALUE,
     });
     let mut port = None;
     let mut closed = false;

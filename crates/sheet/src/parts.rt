@@ -5,7 +5,7 @@ use panel::{RATE, UNIT};
 use reader::read;
 use std::alloc::{AllocError, Global};
 use tree::{ListingTree, Step};
-use weights::{Scale, Size, weight_of};
+use weights::Scale;
 
 // A name as the text has it.
 fn name_of(heap: Global, text: &[u8], name: Span) -> Result<String, AllocError> {
@@ -20,14 +20,12 @@ pub fn print_elements(rt: &HostRuntime, text: &[u8]) -> anyhow::Result<()> {
         return Ok(());
     };
     for element in listing.elements.as_slice() {
-        if let Some(size) = Size::new(element.value) {
-            let name = name_of(rt.alloc(), text, element.name)?;
-            let kind = element.kind.word();
-            let value = element.value;
-            let unit = element.kind.unit();
-            let weight = weight_of(element.kind, size, scale);
-            println!(rt; "{name:<8} {kind:<9} {value:>9} {unit:<12} weight {weight:>3}")?;
-        }
+        let name = name_of(rt.alloc(), text, element.name)?;
+        let kind = element.kind.word();
+        let value = element.value.get();
+        let unit = element.kind.unit();
+        let weight = scale.weight_of(element.kind, element.value);
+        println!(rt; "{name:<8} {kind:<9} {value:>9} {unit:<12} weight {weight:>3}")?;
     }
     Ok(())
 }

@@ -4,12 +4,13 @@ use native.Mathlib.Nat.{pow-le-pow_right}
 use lib.Seq.{take-append_seam, drop-append_seam}
 use Rattle.std.specs.Char.{is_ascii_digit}
 use Rattle.std.specs.List.{prefix_len}
-use Rattle.std.proofs.lemmas.Bool.{cases_order, cond-true, cond-false, cases_Bool}
+use Rattle.std.proofs.lemmas.Bool.{cond-true, cond-false, cases_Bool}
 use Rattle.std.proofs.lemmas.Bool.Decides.{nat_tests}
 use Rattle.values.specs.declared.Kind.{Kind}
 use Rattle.values.specs.declared.Wrong.{Wrong}
 use Rattle.values.specs.declared.Wrong.TheVariants.{Form, Range}
-use Rattle.values.specs.Values.{decimal, factors, looked, Valued, ValueFault, InRange}
+use Rattle.values.specs.Limits.{InRange}
+use Rattle.values.specs.Values.{decimal, factors, looked, Valued, ValueFault}
 use Rattle.values.proofs.Tables.{factor_stops}
 
 pub digit_range : (c : ℕ) → is_ascii_digit c ≡ true → (48 ≤ c) × (c ≤ 57)
@@ -94,9 +95,3 @@ module _ (s : Kind) (bs : List ℕ) where
   none_by_factor back n e b stops v h =
       let p : looked factors s back ≡ Some h.factor = ap (looked factors s) (b ∙ ap (λ m. drop m bs) e ∙ sym (back_drop v h)) ∙ h.scale in
       let z : ◌≡◌ {A = ℕ} 0 1 = cc in omega arith
-
-pub out_of_range : (n : ℕ) → (n ≡ 0) ⊎ ((n ≡ 0 → ⊥) × (100000000 < n)) → InRange n → ⊥
-out_of_range n which x = ⊎_elim (λ e. omega (arith, x.0)) (λ e. omega (arith, e.1, x.1)) which
-
-pub in_range : (n : ℕ) → (n ≡ 0 → ⊥) → n ≤ 100000000 → InRange n
-in_range n some l = (⊎_elim (λ e. absurd (some e)) (⊎_elim (λ m. absurd (omega arith)) (λ m. m)) (cases_order n 0), l)

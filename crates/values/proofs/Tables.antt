@@ -1,35 +1,12 @@
 -- A search in the table of scale factors.
-use Rattle.std.proofs.Common.{◌≡◌, ℕ, ◌+◌, ◌<◌, ◌≤◌, Bool, true, false, cond, ◌&&◌, eqb, ltb, leb, List, [], ◌∷◌, map, length, get_or, drop, Some, None, Option, sym, refl, ap, ◌∙◌, subst, ⊎_elim, add-one, arith, drop_of_length-le, drop-cons}
+use Rattle.std.proofs.Common.{◌≡◌, ℕ, ◌≤◌, Bool, true, false, ◌&&◌, eqb, ltb, leb, List, [], ◌∷◌, map, Some, None, Option, sym, refl, ap, ◌∙◌, ⊎_elim, arith}
 use Rattle.std.specs.Char.{to_ascii_lowercase, is_ascii_digit}
 use Rattle.std.specs.Str.{bytes_eq}
 use Rattle.std.specs.List.{prefix_len}
 use Rattle.std.proofs.lemmas.Bool.{cond-true, cond-false, cases_Bool}
 use Rattle.std.proofs.lemmas.Bool.Decides.{nat_tests}
 use Rattle.values.specs.declared.Kind.{Kind}
-use Rattle.values.specs.declared.Kind.TheVariants.{Resistor, Capacitor, Coil}
-use Rattle.values.specs.declared.Factor.{Factor}
-use Rattle.values.specs.Values.{Row, row, factors, is_same_kind, fits_row, looked}
-
-pub kind_refl : (s : Kind) → is_same_kind s s ≡ true
-kind_refl Resistor = refl
-kind_refl Capacitor = refl
-kind_refl Coil = refl
-
-pub same_kind : (a b : Kind) → a ≡ b → is_same_kind a b ≡ true
-same_kind a b e = subst (λ x. is_same_kind a x ≡ true) e (kind_refl a)
-
-module _ (table : List Factor) (s : Kind) (bs : List ℕ) (i : ℕ) (d : Factor) where
-  next_row : i < length table → looked (map row (drop i table)) s bs ≡ cond (fits_row (row (get_or table i d)) s bs) (Some (get_or table i d).times) (looked (map row (drop (i + 1) table)) s bs)
-  next_row l = ap (λ rows. looked (map row rows) s bs) (drop-cons table i d l) ∙ ap (λ k. cond (fits_row (row (get_or table i d)) s bs) (Some (get_or table i d).times) (looked (map row (drop k table)) s bs)) (sym (add-one i))
-
-  pub looked_yes : i < length table → fits_row (row (get_or table i d)) s bs ≡ true → looked (map row (drop i table)) s bs ≡ Some (get_or table i d).times
-  looked_yes l fits = next_row l ∙ cond-true _ _ _ fits
-
-  pub looked_no : i < length table → fits_row (row (get_or table i d)) s bs ≡ false → looked (map row (drop i table)) s bs ≡ looked (map row (drop (i + 1) table)) s bs
-  looked_no l fits = next_row l ∙ cond-false _ _ _ fits
-
-pub looked_all : (table : List Factor) (s : Kind) (bs : List ℕ) (i : ℕ) → length table ≤ i → looked (map row (drop i table)) s bs ≡ None
-looked_all table s bs i l = ap (λ rows. looked (map row rows) s bs) (drop_of_length-le table {i = i} l)
+use Rattle.values.specs.Values.{Row, factors, is_same_kind, fits_row, looked}
 
 -- A row that no word with a digit in front can fit, and whose factor is small: a test that is computed over the whole table.
 abbrev pub plain : List ℕ → Bool

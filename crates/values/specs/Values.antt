@@ -2,18 +2,12 @@
 use Rattle.std.specs.Prelude.{◌≡◌, ℕ, ◌+◌, ◌-◌, ◌*◌, ◌<◌, ◌≤◌, Bool, true, false, cond, ◌&&◌, List, [], ◌∷◌, ◌++◌, map, length, Some, None, codes, fold, Option, slice_index}
 use Rattle.std.specs.Char.{to_ascii_lowercase, is_ascii_digit}
 use Rattle.std.specs.Str.{bytes_eq}
+use Rattle.values.specs.Limits.{most_digits, InRange}
 use Rattle.values.specs.declared.Kind.{Kind}
 use Rattle.values.specs.declared.Kind.TheVariants.{Resistor, Capacitor, Coil}
 use Rattle.values.specs.declared.Factor.{Factor}
 use Rattle.values.specs.declared.Wrong.{Wrong}
 use Rattle.values.specs.declared.Wrong.TheVariants.{Form, Range}
-
--- the most digits of a value, and the largest scaled value
-abbrev pub most_digits : ℕ
-most_digits = 6
-
-abbrev pub largest_value : ℕ
-largest_value = 100000000
 
 -- the number that digits write
 abbrev pub decimal : List ℕ → ℕ
@@ -75,9 +69,6 @@ pub record Valued (s : Kind) (bs : List ℕ) (n : ℕ) : Type 0 where
   pub each : (k : ℕ) → k < length front → is_ascii_digit (slice_index front k) ≡ true
   pub scale : looked factors s back ≡ Some factor
   pub count : n ≡ decimal front * factor
-
-abbrev pub InRange : ℕ → Type 0
-InRange n = (1 ≤ n) × (n ≤ largest_value)
 
 -- what is wrong with a word: it has no value, or one out of range
 abbrev pub ValueFault : Kind → List ℕ → Wrong → Type 0

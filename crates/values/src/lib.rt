@@ -1,19 +1,21 @@
 // Reads the value of an element: digits and a scale factor.
 #![tactic(auto)]
 
-ghost use Rattle.std.specs.Prelude.{◌≡◌, ℕ, ◌+◌, ◌-◌, ◌*◌, ◌<◌, ◌≤◌, true, map, length, IfSome, MatchResult, slice_index};
+ghost use Rattle.std.specs.Prelude.{◌≡◌, ℕ, ◌+◌, ◌-◌, ◌*◌, ◌<◌, ◌≤◌, true, map, length, option_map, IfSome, MatchResult, slice_index};
 ghost use Rattle.std.specs.Char.{is_ascii_digit};
-ghost use Rattle.std.specs.List.{prefix_len};
-ghost use Rattle.values.specs.Values.{most_digits, decimal, row, fits_row, looked, factors, kind_word, kind_unit, Valued, ValueFault, InRange};
+ghost use Rattle.std.specs.List.{prefix_len, find};
+ghost use Rattle.values.specs.Limits.{most_digits};
+ghost use Rattle.values.specs.Values.{decimal, row, fits_row, looked, factors, kind_word, kind_unit, Valued, ValueFault};
+
+mod counted;
+
+pub use counted::{LARGEST_VALUE, LEAST_VALUE, Value};
 
 // The most digits of a value.
 const MOST_DIGITS: usize = 6;
 
-/// The largest scaled value.
-pub const LARGEST_VALUE: u64 = 100_000_000;
-
 /// The kind of an element. Values of resistors are counted in ohms, of capacitors in picofarads, of coils in microhenries.
-#[derive(Clone, Copy, PartialEq)]
+#[derive(Clone, Copy, Debug, PartialEq, Eq)]
 pub enum Kind {
     Resistor,
     Capacitor,
@@ -45,7 +47,7 @@ impl Kind {
 }
 
 /// What may be wrong with a value: its form, or its size once it is scaled.
-#[derive(Clone, Copy)]
+#[derive(Clone, Copy, Debug, PartialEq, Eq)]
 pub enum Wrong {
     Form,
     Range,
@@ -116,11 +118,7 @@ const FACTORS: [Factor; 10] = [
 fn digit_count(word: &[u8]) -> usize
     ensures { result ≡ prefix_len is_ascii_digit word.now }
 {
-    let mut n = 0;
-    while n < word.len() && word[n].is_ascii_digit() {
-        n += 1;
-    }
-    n
+    word.iter().take_while(|b| b.is_ascii_digit()).count()
 }
 
 fn decimal_of(digits: &[u8]) -> u64
@@ -147,14 +145,12 @@ impl Factor {
 
 // By how much the first factor in the table that fits multiplies.
 fn look_up(table: &[Factor], kind: Kind, letters: &[u8]) -> Option<u64>
-    ensures { result ≡ looked (map row table.now) kind letters.now }
+    ensures { result ≡ option_map (λ f. f.times) (find (λ f. fits_row (row f) kind letters.now) table.now) }
 {
-    for factor in table {
-        if factor.fits(kind, letters) {
-            return Some(factor.times);
-        }
-    }
-    None
+    table
+        .iter()
+        .find(|factor| factor.fits(kind, letters))
+        .map(|factor| factor.times)
 }
 
 fn factor_of(kind: Kind, letters: &[u8]) -> Option<u64>
@@ -165,8 +161,8 @@ fn factor_of(kind: Kind, letters: &[u8]) -> Option<u64>
 }
 
 // The scaled value of an element of this kind, in the unit that the kind counts, or what is wrong with the word.
-pub fn value_of(kind: Kind, word: &[u8]) -> Result<u32, Wrong>
-    ensures { MatchResult result (λ n. Valued kind word.now n × InRange n) (λ x. ValueFault kind word.now x) }
+pub fn value_of(kind: Kind, word: &[u8]) -> Result<Value, Wrong>
+    ensures { MatchResult result (λ v. Valued kind word.now v.value) (λ x. ValueFault kind word.now x) }
 {
     let count = digit_count(word);
     if count == 0 || count > MOST_DIGITS {
@@ -176,9 +172,8 @@ pub fn value_of(kind: Kind, word: &[u8]) -> Result<u32, Wrong>
     let Some(times) = factor_of(kind, back) else {
         return Err(Wrong::Form);
     };
-    let scaled = decimal_of(front) * times;
-    if scaled == 0 || scaled > LARGEST_VALUE {
+    let Ok(scaled) = u32::try_from(decimal_of(front) * times) else {
         return Err(Wrong::Range);
-    }
-    Ok(scaled as u32)
+    };
+    Value::new(scaled).ok_or(Wrong::Range)
 }

@@ -9,12 +9,5 @@ largest_rate = 192000
 abbrev pub largest_unit : ℕ
 largest_unit = 100000
 
--- ohms, picofarads or microhenries
-abbrev pub largest_size : ℕ
-largest_size = 100000000
-
 abbrev pub Scaled : ℕ → ℕ → Type 0
 Scaled rate unit = (0 < rate) × (rate ≤ largest_rate) × (0 < unit) × (unit ≤ largest_unit)
-
-abbrev pub Sized : ℕ → Type 0
-Sized value = (0 < value) × (value ≤ largest_size)

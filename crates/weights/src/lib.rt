@@ -2,9 +2,7 @@
 #![tactic(auto)]
 
 mod scales;
-mod sizes;
 mod weighs;
 
 pub use scales::{LARGEST_RATE, LARGEST_UNIT, Scale};
-pub use sizes::{LARGEST_SIZE, Size};
-pub use weighs::{Examples, weight_of, worked_examples};
+pub use weighs::{Examples, worked_examples};

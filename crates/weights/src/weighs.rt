@@ -1,10 +1,10 @@
 ghost use Rattle.std.specs.Prelude.{◌≡◌, ◌*◌, ◌<◌, ◌≤◌, MatchOption};
-ghost use Rattle.weights.specs.Limits.{Scaled, Sized, largest_rate, largest_unit, largest_size};
+ghost use Rattle.values.specs.Limits.{largest_value};
+ghost use Rattle.weights.specs.Limits.{Scaled, largest_rate};
 ghost use Rattle.weights.specs.Weights.{dividend as dividend_of, divisor as divisor_of, weight, Table};
 
 use crate::scales::{LARGEST_RATE, LARGEST_UNIT, Scale};
-use crate::sizes::{LARGEST_SIZE, Size};
-use values::Kind;
+use values::{Kind, Value};
 
 impl Scale {
     /// None where the rate or the unit is 0 or too large.
@@ -16,65 +16,52 @@ impl Scale {
         }
         Some(Scale { rate, unit })
     }
-}
 
-impl Size {
-    /// None where the value is 0 or too large.
-    pub fn new(value: u32) -> Option<Size>
-        ensures { MatchOption result (Sized value → ⊥) (λ s. s.value ≡ value) }
+    /// The weight of an element, rounded down.
+    pub fn weight_of(self, kind: Kind, value: Value) -> u64
+        ensures { result ≡ weight kind value.value self.rate self.unit }
     {
-        if value == 0 || value > LARGEST_SIZE {
-            return None;
+        self.dividend(kind, value) / self.divisor(kind, value)
+    }
+
+    fn dividend(self, kind: Kind, value: Value) -> u64
+        ensures { result ≡ dividend_of kind value.value self.rate }
+    {
+        match kind {
+            Kind::Resistor => 1_000_000_000,
+            Kind::Capacitor => self.doubled(value),
+            Kind::Coil => 1_000_000_000_000_000,
         }
-        Some(Size { value })
     }
-}
 
-// 2 v r
-fn doubled(value: u32, rate: u32) -> u64
-    requires { (0 < value) × (value ≤ largest_size) × (0 < rate) × (rate ≤ largest_rate) }
-    ensures value { result ≡ 2 * value * rate }
-    ensures above { 0 < result }
-    ensures bound { result ≤ 2 * largest_size * largest_rate }
-{
-    2 * value as u64 * rate as u64
-}
-
-// x u
-fn united(x: u64, unit: u32) -> u64
-    requires { (0 < x) × (x ≤ 2 * largest_size * largest_rate) × (0 < unit) × (unit ≤ largest_unit) }
-    ensures value { result ≡ x * unit }
-    ensures above { 0 < result }
-{
-    x * unit as u64
-}
-
-fn dividend(kind: Kind, size: Size, scale: Scale) -> u64
-    ensures { result ≡ dividend_of kind size.value scale.rate }
-{
-    match kind {
-        Kind::Resistor => 1_000_000_000,
-        Kind::Capacitor => doubled(size.value, scale.rate),
-        Kind::Coil => 1_000_000_000_000_000,
+    fn divisor(self, kind: Kind, value: Value) -> u64
+        ensures value { result ≡ divisor_of kind value.value self.rate self.unit }
+        ensures above { 0 < result }
+    {
+        match kind {
+            Kind::Resistor => self.united(u64::from(value.get())),
+            Kind::Capacitor => self.united(1_000),
+            Kind::Coil => self.united(self.doubled(value)),
+        }
     }
-}
 
-fn divisor(kind: Kind, size: Size, scale: Scale) -> u64
-    ensures value { result ≡ divisor_of kind size.value scale.rate scale.unit }
-    ensures above { 0 < result }
-{
-    match kind {
-        Kind::Resistor => united(size.value as u64, scale.unit),
-        Kind::Capacitor => united(1_000, scale.unit),
-        Kind::Coil => united(doubled(size.value, scale.rate), scale.unit),
+    // 2 v r
+    fn doubled(self, value: Value) -> u64
+        ensures value { result ≡ 2 * value.value * self.rate }
+        ensures above { 0 < result }
+        ensures bound { result ≤ 2 * largest_value * largest_rate }
+    {
+        2 * u64::from(value.get()) * u64::from(self.rate)
     }
-}
 
-/// The weight of an element, rounded down.
-pub fn weight_of(kind: Kind, size: Size, scale: Scale) -> u64
-    ensures { result ≡ weight kind size.value scale.rate scale.unit }
-{
-    dividend(kind, size, scale) / divisor(kind, size, scale)
+    // x u
+    fn united(self, x: u64) -> u64
+        requires { (0 < x) × (x ≤ 2 * largest_value * largest_rate) }
+        ensures value { result ≡ x * self.unit }
+        ensures above { 0 < result }
+    {
+        x * u64::from(self.unit)
+    }
 }
 
 /// Weights at 16,000 hertz and 10,000 nanosiemens.

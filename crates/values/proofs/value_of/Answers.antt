@@ -1,8 +1,13 @@
-use Rattle.std.proofs.Common.{◌*◌, ◌<◌, ◌≤◌, length, get_or, ap, ◌∙◌, inl, inr, ⊎_elim, arith, get_or-take, rules}
+use Rattle.std.proofs.Common.{◌≡◌, ℕ, ◌*◌, ◌<◌, ◌≤◌, List, length, get_or, Some, None, Option, MatchOption, MatchResult, sym, subst, ap, ◌∙◌, inl, inr, ⊎_elim, arith, get_or-take, rules}
+use Rattle.std.specs.Option.{ok_or}
 use Rattle.std.specs.Char.{is_ascii_digit}
 use Rattle.std.proofs.lemmas.List.Sums.{prefix_len-le-length}
-use Rattle.values.specs.Values.{Valued}
-use Rattle.values.proofs.Numerals.{leading_each, made_by, none_by_count, none_by_factor, out_of_range, in_range}
+use Rattle.values.specs.Limits.{InRange}
+use Rattle.values.specs.Values.{Valued, ValueFault}
+use Rattle.values.specs.declared.Kind.{Kind}
+use Rattle.values.specs.declared.counted.Value.{Value}
+use Rattle.values.specs.declared.Wrong.TheVariants.{Range}
+use Rattle.values.proofs.Numerals.{leading_each, made_by, none_by_count, none_by_factor}
 use Rattle.values.proofs.value_of.Goals as goal
 use Rattle.values.proofs.value_of.Goals.{Else-count-gt-MOST_DIGITS, After-decimal_of}
 
@@ -34,8 +39,15 @@ decimal_of-requires c =
           ap is_ascii_digit (ap (λ xs. get_or xs k 0) c.split_at.ensures.front ∙ get_or-take n bs k 0 m) ∙ leading_each bs k (omega (arith, c.digit_count-count.ensures));
     }
 
-pub returns-then-scaled-eq0 : goal.returns-then-scaled-eq0
-returns-then-scaled-eq0 c = (_, valued (goal.at.returns-then-scaled-eq0 c).After-decimal_of, out_of_range _ c.then-scaled-eq0.either)
+pub returns-in_default-try_from : goal.returns-in_default-try_from
+returns-in_default-try_from c = (_, valued (goal.at.returns-in_default-try_from c).After-decimal_of, λ r. let far = c.in_default-try_from.ensures in omega (arith, r.1))
+
+-- none where it is out of range
+or_range : (k : Kind) (bs : List ℕ) (n : ℕ) (o : Option Value) → Valued k bs n → MatchOption o (InRange n → ⊥) (λ v. v.value ≡ n) → MatchResult (ok_or o Range) (λ v. Valued k bs v.value) (λ x. ValueFault k bs x)
+or_range k bs n None h out = (n, h, out)
+or_range k bs n (Some v) h is = subst (Valued k bs) (sym is) h
 
 pub returns : goal.returns
-returns c = (valued (goal.at.returns c).After-decimal_of, in_range _ c.if-scaled-eq0.false c.if-scaled-gt-LARGEST_VALUE.false)
+returns c =
+    let v = valued (goal.at.returns c).After-decimal_of in
+    rw c.ok_or.ensures.value (or_range c.args.kind c.args.word.now c.in-Ok.scaled c.new.result (subst (Valued c.args.kind c.args.word.now) (sym c.in-Ok.ensures.1) v) c.new.ensures)

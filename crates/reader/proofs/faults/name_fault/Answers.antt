@@ -1,12 +1,13 @@
 use Rattle.std.proofs.Common.{arith, rules}
 use Rattle.values.specs.declared.Kind.TheVariants.{Resistor}
+use Rattle.values.proofs.OneValue.{some_value}
 use Rattle.reader.specs.Lines.{nowhere}
 use Rattle.reader.specs.declared.Element.{Element}
 use Rattle.reader.proofs.Parts.{found_among, none_among, name_twice, name_full, name_none}
 use Rattle.reader.proofs.faults.name_fault.Goals as goal
 
 nobody : Element
-nobody = record { name = nowhere; kind = Resistor; ends = record { from = record { index = 0 }; to = record { index = 0 } }; value = 0 }
+nobody = record { name = nowhere; kind = Resistor; ends = record { from = record { index = 0 }; to = record { index = 0 } }; value = some_value }
 
 pub returns-in-Some : goal.returns-in-Some
 returns-in-Some c =

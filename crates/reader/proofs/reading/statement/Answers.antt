@@ -1,5 +1,6 @@
-use Rattle.std.proofs.Common.{◌≡◌, ℕ, true, take, is_some, is_ok, Some, None, Ok, Option, sym, ap, ◌∙◌, subst, inl, inr, ⊎_elim}
+use Rattle.std.proofs.Common.{◌≡◌, true, take, is_some, is_ok, Some, None, Ok, Option, sym, ap, ◌∙◌, subst, inl, inr, ⊎_elim}
 use Rattle.values.specs.Values.{Valued}
+use Rattle.values.specs.declared.counted.Value.{Value}
 use Rattle.values.specs.declared.Kind.{Kind}
 use Rattle.reader.specs.declared.LineKind.TheVariants.{Part, Port}
 use Rattle.reader.specs.declared.Ends.{Ends}
@@ -50,7 +51,7 @@ module _ (c : After-sooner-2) (none : Faulty c None) where
   no_ends_fault : is_ok c.ends_of-ends.result ≡ true
   no_ends_fault = ends_sure c.args.text.now c.args.line.place (stop c.args.line) c.args.closed c.args.elements.now c.args.ported c.args.nodes.now c.as_slice-fields.result.now (cutting c).0 (cutting c).1 (same c) c.standing_as-kind.result (stands c) none _ _ c.ends_of-ends.ensures
 
-  some_value : (s : Kind) (o : Option ℕ) → c.standing_as-kind.result ≡ Part s → c.value_at-value.result ≡ Ok o → is_some o ≡ true
+  some_value : (s : Kind) (o : Option Value) → c.standing_as-kind.result ≡ Part s → c.value_at-value.result ≡ Ok o → is_some o ≡ true
   some_value s o k e = value_there c.args.text.now c.args.line.place (stop c.args.line) c.args.closed c.args.elements.now c.args.ported c.args.nodes.now c.as_slice-fields.result.now (cutting c).0 (cutting c).1 (same c) c.standing_as-kind.result (stands c) none s o k (ok_says _ _ _ _ _ c.value_at-value.ensures e)
 
   some_ends : (o : Option Ends) → Carries c.standing_as-kind.result → c.ends_of-ends.result ≡ Ok o → is_some o ≡ true
@@ -62,8 +63,8 @@ module _ (c : After-sooner-2) (none : Faulty c None) where
   two_ends : (o : Option Ends) (x : Ends) → c.ends_of-ends.result ≡ Ok o → o ≡ Some x → EndsAre c.args.text.now c.standing_as-kind.result c.as_slice-fields.result.now c.args.nodes.now c.ends_of-ends.new.nodes (Some x)
   two_ends o x e f = ok_says _ _ _ _ _ c.ends_of-ends.ensures (e ∙ ap Ok f)
 
-  part : (s : Kind) (x : Ends) (v : ℕ) (o : Option Ends) (w : Option ℕ) → c.standing_as-kind.result ≡ Part s → c.ends_of-ends.result ≡ Ok o → o ≡ Some x → c.value_at-value.result ≡ Ok w → w ≡ Some v
-      → (standing c.args.line.place c.args.closed (kind_of_line c.args.text.now (cutting c).0) ≡ Part s) × (nth c.as_slice-fields.result.now 0 ≡ nth (cutting c).0 0) × BothEnds c.args.text.now (cutting c).0 c.args.nodes.now c.ends_of-ends.new.nodes x × Valued s (bytes c.args.text.now (nth (cutting c).0 3)) v
+  part : (s : Kind) (x : Ends) (v : Value) (o : Option Ends) (w : Option Value) → c.standing_as-kind.result ≡ Part s → c.ends_of-ends.result ≡ Ok o → o ≡ Some x → c.value_at-value.result ≡ Ok w → w ≡ Some v
+      → (standing c.args.line.place c.args.closed (kind_of_line c.args.text.now (cutting c).0) ≡ Part s) × (nth c.as_slice-fields.result.now 0 ≡ nth (cutting c).0 0) × BothEnds c.args.text.now (cutting c).0 c.args.nodes.now c.ends_of-ends.new.nodes x × Valued s (bytes c.args.text.now (nth (cutting c).0 3)) v.value
   part s x v o w k e f g h = part_says c.args.text.now c.args.line.place (stop c.args.line) c.args.closed c.args.elements.now c.args.ported c.args.nodes.now c.as_slice-fields.result.now (cutting c).0 (cutting c).1 (same c) c.standing_as-kind.result (stands c) none s _ x v k (two_ends o x e f) (ok_says _ _ _ _ _ c.value_at-value.ensures (g ∙ ap Ok h))
 
   port : (x : Ends) (o : Option Ends) → c.standing_as-kind.result ≡ Port → c.ends_of-ends.result ≡ Ok o → o ≡ Some x
