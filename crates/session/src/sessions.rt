@@ -18,10 +18,7 @@ fn turn_full<P: Port, C: Closing>(rig: &mut Rig<P, C>) -> Option<Page>
     if rig.entries() < PAGE_LENGTH {
         return None;
     }
-    match rig.turn() {
-        Ok(page) => Some(page),
-        Err(_) => unreachable(),
-    }
+    Some(rig.turn().unwrap())
 }
 
 impl<P: Port, C: Closing> Session<P, C> {
@@ -46,26 +43,18 @@ impl<P: Port, C: Closing> Session<P, C> {
     pub fn feed(&mut self, e: i32) -> Result<Entry, Refusal>
         ensures { Sounded P.Port C.Closing self.old.rig e result self.new.rig }
     {
-        match self.rig.feed(e) {
-            Ok(round) => {
-                let page = turn_full(&mut self.rig);
-                Ok(Entry { round, page })
-            }
-            Err(why) => Err(why),
-        }
+        let round = self.rig.feed(e)?;
+        let page = turn_full(&mut self.rig);
+        Ok(Entry { round, page })
     }
 
     /// Clears the port: the energy dropped, and the page if that filled it.
     pub fn clear(&mut self) -> (u64, Option<Page>)
         ensures { Dropped P.Port C.Closing self.old.rig result.0 result.1 self.new.rig }
     {
-        match self.rig.clear() {
-            Ok(dropped) => {
-                let page = turn_full(&mut self.rig);
-                (dropped, page)
-            }
-            Err(_) => unreachable(),
-        }
+        let dropped = self.rig.clear().unwrap();
+        let page = turn_full(&mut self.rig);
+        (dropped, page)
     }
 
     /// Turns the page if it has entries.
@@ -75,9 +64,6 @@ impl<P: Port, C: Closing> Session<P, C> {
         if self.rig.entries() == 0 {
             return None;
         }
-        match self.rig.turn() {
-            Ok(page) => Some(page),
-            Err(_) => unreachable(),
-        }
+        Some(self.rig.turn().unwrap())
     }
 }

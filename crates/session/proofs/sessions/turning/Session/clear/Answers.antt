@@ -1,12 +1,15 @@
-use Rattle.std.proofs.Common.{Ok}
+use Rattle.std.proofs.Common.{ℕ, Ok, Result, subst}
+use Rattle.rig.specs.Steps.{Cleared}
 use Rattle.rig.specs.Runs.Event.{clear}
+use Rattle.rig.specs.declared.refusals.Refusal.{Refusal}
 use Rattle.session.proofs.Turnings.{then_turned, fills}
 use Rattle.session.proofs.sessions.turning.Session.clear.Goals as goal
 
 pub returns : goal.returns
 returns g c =
-    let cleared = c.in-Ok.ensures in
-    let a = c.args.self.now in (
-      then_turned _ _ a.rig (clear (Ok c.in-Ok.dropped)) c.clear.new.self c.turn_full-page.result c.turn_full-page.new.rig cleared cleared.1.raised c.turn_full-page.ensures,
-      fills g.P.Port g.C.Closing a.rig c.clear.new.self _ c.turn_full-page.new.rig cleared.1.tally.entries a.room c.turn_full-page.ensures,
+    let a = c.args.self.now in
+    let turned = c.turn_full-page in
+    let cleared = subst (λ (r : Result ℕ Refusal). Cleared g.P.Port a.rig r c.clear.new.self) c.unwrap-dropped.ensures c.clear.ensures in (
+      then_turned _ _ a.rig (clear (Ok c.unwrap-dropped.result)) c.clear.new.self turned.result turned.new.rig cleared cleared.1.raised turned.ensures,
+      fills g.P.Port g.C.Closing a.rig c.clear.new.self _ turned.new.rig cleared.1.tally.entries a.room turned.ensures,
     )
