@@ -73,17 +73,16 @@ impl<P: Port, C: Closing> Rig<P, C> {
         ensures { Rounded P.Port self.old falling.value result self.new }
     {
         let taken = self.port.take(falling.get());
-        self.tally = self
-            .tally
-            .entered(rising, falling, taken.absorbed, taken.shortened, 0);
-        self.raised = false;
-        Round {
+        let round = Round {
             rising,
             falling,
             absorbed: taken.absorbed,
             shortened: taken.shortened,
             heard: taken.heard,
-        }
+        };
+        self.tally = self.tally.counted(round);
+        self.raised = false;
+        round
     }
 
     // No wave is open, and the page has an entry left.
@@ -173,7 +172,7 @@ impl<P: Port, C: Closing> Rig<P, C> {
     {
         self.ready()?;
         let dropped = self.port.clear();
-        self.tally = self.tally.entered(Wave::ZERO, Wave::ZERO, 0, 0, dropped);
+        self.tally = self.tally.cleared(dropped);
         Ok(dropped)
     }
 

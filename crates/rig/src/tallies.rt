@@ -3,7 +3,7 @@ ghost use Rattle.wave.specs.Numbers.{sq};
 ghost use Rattle.rig.specs.Limits.{page_length, most_absorbed, most_count, most_square};
 ghost use Rattle.rig.specs.Pages.{Fresh, Entered, page_of};
 
-use crate::pages::Page;
+use crate::pages::{Page, Round};
 use crate::parts::Tally;
 use wave::waves::Wave;
 
@@ -39,26 +39,39 @@ impl Tally {
         }
     }
 
-    // One entry more.
-    pub(crate) fn entered(
-        self,
-        rising: Wave,
-        falling: Wave,
-        absorbed: u64,
-        shortened: u32,
-        dropped: u64,
-    ) -> Tally
-        requires { (self.entries < page_length) × ((absorbed ≤ most_absorbed) × ((shortened ≤ most_count) × (dropped ≤ most_absorbed))) }
-        ensures { Entered self rising.value falling.value absorbed shortened dropped result }
+    // One round more.
+    pub(crate) fn counted(self, round: Round) -> Tally
+        requires { (self.entries < page_length) × ((round.absorbed ≤ most_absorbed) × (round.shortened ≤ most_count)) }
+        ensures { Entered self round.rising.value round.falling.value round.absorbed round.shortened 0 result }
     {
-        let swing = swung(self.swing, self.entries, squared(falling), squared(rising));
+        let swing = swung(
+            self.swing,
+            self.entries,
+            squared(round.falling),
+            squared(round.rising),
+        );
         Tally {
             entries: self.entries + 1,
             start: self.start,
-            absorbed: self.absorbed + absorbed,
-            dropped: self.dropped + dropped,
-            shortened: self.shortened + shortened as u64,
+            absorbed: self.absorbed + round.absorbed,
+            dropped: self.dropped,
+            shortened: self.shortened + round.shortened as u64,
             swing,
+        }
+    }
+
+    // One clear more.
+    pub(crate) fn cleared(self, dropped: u64) -> Tally
+        requires { (self.entries < page_length) × (dropped ≤ most_absorbed) }
+        ensures { Entered self (pos 0) (pos 0) 0 0 dropped result }
+    {
+        Tally {
+            entries: self.entries + 1,
+            start: self.start,
+            absorbed: self.absorbed,
+            dropped: self.dropped + dropped,
+            shortened: self.shortened,
+            swing: self.swing,
         }
     }
 
