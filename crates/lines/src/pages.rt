@@ -10,14 +10,14 @@ pub fn page_line(num: u32, den: u32, page: Page) -> Line
     ensures { Holds (line_of (page_words num den page)) result }
 {
     let mut line = Line::empty();
-    line.push_word(page.entries as u64, b' ');
-    line.push_word(num as u64, b' ');
-    line.push_word(den as u64, b' ');
+    line.push_word(page.entries, b' ');
+    line.push_word(num, b' ');
+    line.push_word(den, b' ');
     line.push_word(page.start, b' ');
     line.push_word(page.end, b' ');
     line.push_word(page.absorbed, b' ');
     line.push_word(page.dropped, b' ');
-    line.push_signed(page.swing, b' ');
+    line.push_word(page.swing, b' ');
     line.push_word(page.shortened, b'\n');
     line
 }
@@ -26,9 +26,10 @@ pub fn page_line(num: u32, den: u32, page: Page) -> Line
 pub fn refusal_line(layer: u32, number: u32, place: u64) -> Line
     ensures { Holds (line_of (refusal_words layer number place)) result }
 {
-    let mut line = Line::refused();
-    line.push_word(layer as u64, b' ');
-    line.push_word(number as u64, b' ');
+    let mut line = Line::empty();
+    line.push(b"refused ");
+    line.push_word(layer, b' ');
+    line.push_word(number, b' ');
     line.push_word(place, b'\n');
     line
 }
