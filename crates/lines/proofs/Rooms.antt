@@ -19,10 +19,10 @@ module _ (bs : List ℕ) (n : ℕ) (h : n < line_room) (e : drop n bs ≡ replic
     pub still_blank : drop m (put_mid n k bs ys) ≡ replicate (line_room - m) 0
     unfolding long
     still_blank =
-        let r : line_room - n - k ≡ line_room - m = omega arith in
-        let s : n + k ≡ m = omega arith in
-        drop-put_mid n k bs ys m (omega arith) (omega (arith, long)) (omega (arith, ap length same))
-        ∙ ap (λ j. drop j bs) (sym s) ∙ sym (drop-drop k n bs) ∙ ap (λ (t : List ℕ). drop k t) e ∙ drop-replicate k (line_room - n) 0 ∙ ap (λ j. replicate j 0) r
+        let past : drop m (put_mid n k bs ys) ≡ drop m bs = drop-put_mid n k bs ys m (omega arith) (omega (arith, long)) (omega (arith, ap length same)) in
+        let here : drop m bs ≡ drop k (drop n bs) = ap (λ j. drop j bs) (omega arith) ∙ sym (drop-drop k n bs) in
+        let zeros : drop k (replicate (line_room - n) 0) ≡ replicate (line_room - m) 0 = drop-replicate k (line_room - n) 0 ∙ ap (λ j. replicate j 0) (omega arith) in
+        past ∙ here ∙ ap (λ (t : List ℕ). drop k t) e ∙ zeros
 
 -- a line of this text
 pub holds_of : (l : Line) (t : List ℕ) → text_of l ≡ t → Holds t l

@@ -4,6 +4,7 @@ ghost use Rattle.lines.specs.Words.{page_words, refusal_words};
 
 use crate::text::Line;
 use rig::Page;
+use told::Tells;
 
 /// A page's line: entries, the two numbers of the port's ratio, the energy stored at its start and at its end, absorbed, dropped, swing, shortened.
 pub fn page_line(num: u32, den: u32, page: Page) -> Line
@@ -23,13 +24,14 @@ pub fn page_line(num: u32, den: u32, page: Page) -> Line
 }
 
 /// A refusal's line: the word `refused`, the layer, the number and the place.
-pub fn refusal_line(layer: u32, number: u32, place: u64) -> Line
-    ensures { Holds (line_of (refusal_words layer number place)) result }
+pub fn refusal_line<T: Tells>(refusal: &T) -> Line
+    ensures { Holds (line_of (refusal_words (T.says refusal.now))) result }
 {
+    let told = refusal.told();
     let mut line = Line::empty();
     line.push(b"refused ");
-    line.push_word(layer, b' ');
-    line.push_word(number, b' ');
-    line.push_word(place, b'\n');
+    line.push_word(told.layer, b' ');
+    line.push_word(told.number, b' ');
+    line.push_word(told.place, b'\n');
     line
 }

@@ -17,6 +17,7 @@ use assembly::{Assembled, AssemblyFault, Workspace, assemble};
 use closing::{Closing, Source};
 use lines::{Line, refusal_line};
 use stream::Stream;
+use told::Told;
 use tree::ListingTree;
 
 /// A stream through the tree of a listing. Over a bounded closing its tail dies: in silence the rounds in which anything is heard number at most the
@@ -32,13 +33,13 @@ pub fn listen<C: Closing>(tree: ListingTree, closing: C) -> Stream<ListingTree, 
 
 /// The line that says a refusal of a listing: its layer, number and place.
 pub fn fault_line(fault: &AssemblyFault) -> Line
-    ensures { Holds (line_of (refusal_words (row fault.now).layer (row fault.now).number (row fault.now).place)) result }
+    ensures { Holds (line_of (refusal_words (record { layer = (row fault.now).layer; number = (row fault.now).number; place = (row fault.now).place }))) result }
 {
-    refusal_line(
-        fault.layer() as u32,
-        fault.number() as u32,
-        fault.place() as u64,
-    )
+    refusal_line(&Told {
+        layer: fault.layer() as u32,
+        number: fault.number() as u32,
+        place: fault.place() as u64,
+    })
 }
 
 /// The weight of the source before a panel's line.
