@@ -1,45 +1,27 @@
 -- When all lines are read.
-use Rattle.std.proofs.Common.{◌≡◌, ℕ, ◌+◌, ◌-◌, ◌<◌, ◌≤◌, Bool, true, false, eqb, ◌⊎◌, List, [], ◌∷◌, ◌++◌, length, take, is_some, Some, None, Option, sym, refl, ap, subst, inl, inr, ⊎_elim, arith, take_all}
-use Rattle.std.proofs.lemmas.List.{length_push}
-use Rattle.std.proofs.lemmas.Bool.{cases_order, cases_lt}
-use Rattle.std.proofs.lemmas.Bool.Decides.{nat_tests}
-use Rattle.cut.specs.Cuts.{bytes, LineTo, FieldsIn}
+use Rattle.std.proofs.Common.{◌≡◌, ℕ, ◌+◌, ◌-◌, ◌<◌, ◌≤◌, true, false, ◌⊎◌, List, length, Some, None, refl, ap, ◌∙◌, subst, inl, inr, ⊎_elim, arith}
+use Rattle.std.proofs.lemmas.Bool.{cases_order}
+use Rattle.cut.specs.Cuts.{LineTo, FirstFields}
 use Rattle.cut.specs.declared.Span.{Span}
-use Rattle.values.specs.declared.Kind.{Kind}
 use Rattle.values.specs.declared.Kind.TheVariants.{Resistor}
 use Rattle.values.proofs.OneValue.{some_value}
 use Rattle.reader.specs.declared.LineKind.{LineKind}
-use Rattle.reader.specs.declared.LineKind.TheVariants.{Part, Port}
 use Rattle.refusals.specs.declared.Rule.{Rule}
 use Rattle.refusals.specs.declared.Rule.TheVariants.{Size, TooLong, Shape, BadName, BadValue, OutOfRange, Twice, Full, Wanting, Joined}
 use Rattle.refusals.specs.declared.Fault.{Fault}
 use Rattle.reader.specs.declared.Element.{Element}
-use Rattle.reader.specs.declared.Node.{Node}
 use Rattle.reader.specs.declared.PortRecord.{PortRecord}
-use Rattle.reader.specs.declared.Statement.{Statement}
-use Rattle.reader.specs.declared.Statement.TheVariants.{Passes, Adds, Opens, Closes}
-use Rattle.reader.specs.Limits.{largest_text, most_elements}
-use Rattle.reader.specs.Lines.{nth, kind_of_line, width, Line, LineIn, Closed, Stands, PartLine}
-use Rattle.reader.specs.Records.{Among, Ports}
-use Rattle.reader.specs.Faults.{NameRule, LineFaultBy, PortBefore, FaultBefore, SizeFault, FaultAt}
+use Rattle.reader.specs.declared.reading.Reading.{Reading}
+use Rattle.reader.specs.Limits.{largest_text}
+use Rattle.reader.specs.Lines.{nth, kind_of_line, Line, LineIn, Closed, PartLine}
+use Rattle.reader.specs.Records.{Ports}
+use Rattle.reader.specs.Faults.{LineFaultBy, PortBefore, FaultBefore, SizeFault, FaultAt}
 use Rattle.reader.specs.Answers.{Whole}
-use Rattle.reader.specs.Inner.{standing, NextStart, ReaderFault, Says}
+use Rattle.reader.specs.Inner.{standing, NextStart, ReaderFault, Taken, port_list, Sofar}
 use Rattle.refusals.specs.Refusals.{number}
 use Rattle.refusals.specs.Order.{Least}
-use Rattle.reader.proofs.Few.{nth_between}
-use Rattle.reader.proofs.Steps.{Sofar, kd, stands, refused, passes, closes, adds, opens}
-
-abbrev pub port_list : Option PortRecord → List PortRecord
-port_list None = []
-port_list (Some p) = p ∷ []
-
-pub ported_to : (o : Option PortRecord) → is_some o ≡ true → 0 < length (port_list o)
-ported_to None e = let z : ◌≡◌ {A = ℕ} 0 1 = cc in absurd (omega arith)
-ported_to (Some p) e = omega arith
-
-pub ported_back : (o : Option PortRecord) → 0 < length (port_list o) → is_some o ≡ true
-ported_back None l = absurd (omega arith)
-ported_back (Some p) l = refl
+use Rattle.reader.proofs.Few.{nth_between, kind_few}
+use Rattle.reader.proofs.Steps.{onward, step, refused}
 
 rule_least : (r : Rule) → 1 ≤ number r
 rule_least Size = omega arith
@@ -81,62 +63,30 @@ line_refused t f some few x =
           (λ y. ⊎_elim (λ z. (omega (arith, y.0), λ e. absurd (omega (arith, y.0)))) (λ z. (omega (arith, y.0, z.0), λ e. omega (arith, z.1, ap number y.1.1))) early)),
     )
 
--- one line is read
-module _ {t : List ℕ} {q : ℕ} {closed : Bool} {ns : List Node} {es : List Element} (port : Option PortRecord) (h : Sofar t q closed ns es (port_list port)) (on : q < length t) (b : ℕ) (fs : List Span) (ends : LineTo t q b) (cut : FieldsIn t q b fs) where
-  pub refused_line : (f : Fault) → Least (ReaderFault t q b closed es (is_some port) ns fs) (Some f) → Least (FaultBefore t (length t)) (Some f)
-  refused_line f x = refused h on b fs ends cut (is_some port) (ported_to port) (ported_back port) f x
+-- a line from q to b by its place and its length, with its first five fields
+module _ {t : List ℕ} {q : ℕ} {so : Reading} (h : Sofar t q so) (on : q < length t) (small : length t ≤ largest_text) (b : ℕ) (few : List Span) (kd : LineKind)
+    (ends : LineTo t q b) (cut : FirstFields t q (q + (b - q)) few) (is : kd ≡ standing q so.closed (kind_of_line t few)) where
+  stop_is : b ≡ q + (b - q)
+  stop_is = let low = ends.low in omega arith
 
-  module _ (none : Least (ReaderFault t q b closed es (is_some port) ns fs) None) where
-    wide : width (standing q closed (kind_of_line t fs)) ≤ length fs
-    wide = ⊎_elim (λ l. absurd (none b Shape (inl (inr (inr (inl (refl, (l, refl)))))))) (λ l. l) (cases_lt (length fs) (width (standing q closed (kind_of_line t fs))))
+  ends' : LineTo t q (q + (b - q))
+  ends' = subst (LineTo t q) stop_is ends
 
-    -- there is room for one more element
-    pub room_left : (s : Kind) → standing q closed (kind_of_line t fs) ≡ Part s → length es < most_elements
-    room_left s is =
-        ⊎_elim (λ l. l)
-        (λ l.
-        let some : 4 ≤ length fs = subst (λ d. width d ≤ length fs) is wide in
-        absurd (none (nth fs 0).place Full (inl (inr (inr (inr (refl, (omega arith, subst (λ d. NameRule d (Among (λ e. e.name) t es (bytes t (nth fs 0))) (most_elements ≤ length es) (is_some port ≡ true) Full) (sym is) (inr (l, refl))))))))))
-        (cases_lt (length es) most_elements)
+  kind_is : kd ≡ standing q so.closed (kind_of_line t cut.0)
+  kind_is = is ∙ ap (standing q so.closed) (kind_few t q (q + (b - q)) few cut.0 cut.1 cut.2)
 
-    -- there is no port yet
-    no_port : standing q closed (kind_of_line t fs) ≡ Port → is_some port ≡ true → ⊥
-    no_port is e =
-        let some : 3 ≤ length fs = subst (λ d. width d ≤ length fs) is wide in
-        none (nth fs 0).place Twice (inl (inr (inr (inr (refl, (omega arith, subst (λ d. NameRule d (Among (λ e. e.name) t es (bytes t (nth fs 0))) (most_elements ≤ length es) (is_some port ≡ true) Twice) (sym is) (e, refl)))))))
+  pub line_taken : (y : Reading) (q' : ℕ) → NextStart t b q' → Least (ReaderFault t q (q + (b - q)) cut.0 kd so) None × Taken t cut.0 kd so y → (q < q') × Sofar t q' y
+  line_taken y q' next x =
+      let w = subst (λ k. Least (ReaderFault t q (q + (b - q)) cut.0 k so) None × Taken t cut.0 k so y) kind_is x in
+      let next' = subst (λ n. NextStart t n q') stop_is next in
+      ((onward h on (q + (b - q)) cut.0 ends' cut.1 w.0 q' next').0, step h on (q + (b - q)) cut.0 ends' cut.1 w.0 q' next' y w.1)
 
-    module _ (q' : ℕ) (next : NextStart t b q') (ns' : List Node) where
-      pub line_passes : Says t (standing q closed (kind_of_line t fs)) fs ns ns' Passes → Sofar t q' closed ns' es (port_list port)
-      line_passes x = subst (λ n. Sofar t q' closed n es (port_list port)) (sym x.1) (passes h on b fs ends cut (is_some port) (ported_to port) (ported_back port) none q' next x.0)
-
-      pub line_closes : Says t (standing q closed (kind_of_line t fs)) fs ns ns' Closes → Sofar t q' true ns' es (port_list port)
-      line_closes x = subst (λ n. Sofar t q' true n es (port_list port)) (sym x.1) (closes h on b fs ends cut (is_some port) (ported_to port) (ported_back port) none q' next x.0)
-
-      pub line_adds : (e : Element) → Says t (standing q closed (kind_of_line t fs)) fs ns ns' (Adds e) → Sofar t q' closed ns' (es ++ e ∷ []) (port_list port)
-      line_adds e x =
-          let some : 4 ≤ length fs = subst (λ d. width d ≤ length fs) x.0 wide in
-          adds h on b fs ends cut (is_some port) (ported_to port) (ported_back port) none q' next e x.2.0 ns' x.0 x.1 (omega arith) x.2.1 x.2.2
-          (record { kind = subst (Stands t (record { start = q; end = b; fields = fs })) x.0 (stands h on b fs ends cut); name = x.1; from = x.2.3; to = x.2.4; value = x.3 })
-
-      pub line_opens : (p : PortRecord) → Says t (standing q closed (kind_of_line t fs)) fs ns ns' (Opens p) → Sofar t q' closed ns' es (port_list (Some p))
-      line_opens p x =
-          let some : 3 ≤ length fs = subst (λ d. width d ≤ length fs) x.0 wide in
-          let none' : port_list port ≡ [] = empty port (no_port x.0) in
-          subst (λ ps. Sofar t q' closed ns' es (ps ++ p ∷ [])) none'
-          (opens h on b fs ends cut (is_some port) (ported_to port) (ported_back port) none q' next p x.2.0 ns' x.0 (omega arith) x.2.1 x.2.2 (record { name = x.1; from = x.2.3; to = x.2.4 }))
-        where
-          empty : (o : Option PortRecord) → (is_some o ≡ true → ⊥) → port_list o ≡ []
-          empty None e = refl
-          empty (Some r) e = absurd (e refl)
+  pub line_fails : (f : Fault) → Least (ReaderFault t q (q + (b - q)) cut.0 kd so) (Some f) → Least (FaultAt t) (Some f)
+  line_fails f x =
+      line_refused t f (omega arith) small (refused h on (q + (b - q)) cut.0 ends' cut.1 f (subst (λ k. Least (ReaderFault t q (q + (b - q)) cut.0 k so) (Some f)) kind_is x))
 
 -- all lines are read
-module _ {t : List ℕ} {q : ℕ} {closed : Bool} {ns : List Node} {es : List Element} (port : Option PortRecord) (h : Sofar t q closed ns es (port_list port)) (some : 0 < length t) (few : length t ≤ largest_text) (over : length t ≤ q) where
-  end : q ≡ length t
-  end = omega (arith, h.top)
-
-  whole : Sofar t (length t) closed ns es (port_list port)
-  whole = subst (λ n. Sofar t n closed ns es (port_list port)) end h
-
+module _ {t : List ℕ} {so : Reading} (whole : Sofar t (length t) so) (some : 0 < length t) (few : length t ≤ largest_text) where
   no_size : (p : ℕ) (r : Rule) → SizeFault t p r → ⊥
   no_size p r y = ⊎_elim (λ z. omega arith) (λ z. omega arith) y.1
 
@@ -146,20 +96,20 @@ module _ {t : List ℕ} {q : ℕ} {closed : Bool} {ns : List Node} {es : List El
     λ p r. ⊎_elim (λ y. absurd (no_size p r y)) (⊎_elim (λ y. absurd (whole.clean p r y)) (λ y. (omega (arith, y.0), λ e. omega (arith, ap number y.1.1)))),
   )
 
-  pub no_port_wanting : port ≡ None → Least (FaultAt t) (Some (record { place = length t; rule = Wanting }))
+  pub no_port_wanting : so.port ≡ None → Least (FaultAt t) (Some (record { place = length t; rule = Wanting }))
   no_port_wanting e =
       wanting (inr (inl (λ x. let y = whole.ports.complete x.0 (x.1, x.2) in let z = ap (λ o. length (port_list o)) e in omega (arith, y.1.1, z))))
 
-  pub not_closed_wanting : closed ≡ false → Least (FaultAt t) (Some (record { place = length t; rule = Wanting }))
+  pub not_closed_wanting : so.closed ≡ false → Least (FaultAt t) (Some (record { place = length t; rule = Wanting }))
   not_closed_wanting e = wanting (inr (inr (whole.still e)))
 
-  pub no_element_wanting : length es ≡ 0 → Least (FaultAt t) (Some (record { place = length t; rule = Wanting }))
+  pub no_element_wanting : length so.elements ≡ 0 → Least (FaultAt t) (Some (record { place = length t; rule = Wanting }))
   no_element_wanting e = wanting (inl (λ l x part. let y = whole.elements.complete l (x, part) in omega (arith, y.1.1)))
 
-  pub read_whole : (p : PortRecord) → port ≡ Some p → closed ≡ true → (length es ≡ 0 → ⊥) → Whole t ns es p
+  pub read_whole : (p : PortRecord) → so.port ≡ Some p → so.closed ≡ true → (length so.elements ≡ 0 → ⊥) → Whole t so.nodes so.elements p
   read_whole p is shut more =
       let e₀ : Element = record { name = record { place = 0; len = 0 }; kind = Resistor; ends = record { from = record { index = 0 }; to = record { index = 0 } }; value = some_value } in
-      let one : 0 < length es = ⊎_elim (λ e. absurd (more e)) (⊎_elim (λ l. absurd (omega arith)) (λ l. l)) (cases_order (length es) 0) in
+      let one : 0 < length so.elements = ⊎_elim (λ e. absurd (more e)) (⊎_elim (λ l. absurd (omega arith)) (λ l. l)) (cases_order (length so.elements) 0) in
       record {
         clean = λ p' r. ⊎_elim (no_size p' r) (⊎_elim (whole.clean p' r) (λ y.
             ⊎_elim
@@ -170,36 +120,5 @@ module _ {t : List ℕ} {q : ℕ} {closed : Bool} {ns : List Node} {es : List El
             y.1.0));
         nodes = whole.nodes;
         elements = whole.elements;
-        port = subst (λ o. Ports t (length t) ns (port_list o)) is whole.ports;
+        port = subst (λ o. Ports t (length t) so.nodes (port_list o)) is whole.ports;
       }
-
-pub same_reader : (t : List ℕ) (a b : ℕ) (closed : Bool) (es es' : List Element) (p p' : Bool) (ns : List Node) (fs : List Span) (o : Option Fault) → es ≡ es' → p ≡ p' → Least (ReaderFault t a b closed es p ns fs) o → Least (ReaderFault t a b closed es' p' ns fs) o
-same_reader t a b closed es es' p p' ns fs o e f x =
-    subst (λ y. Least (ReaderFault t a b closed es' y ns fs) o) f (subst (λ y. Least (ReaderFault t a b closed y p ns fs) o) e x)
-
-pub sofar_at : (t : List ℕ) (q : ℕ) (ns : List Node) {closed closed' : Bool} {es es' : List Element} {o o' : Option PortRecord} → closed ≡ closed' → es ≡ es' → o ≡ o' → Sofar t q closed ns es (port_list o) → Sofar t q closed' ns es' (port_list o')
-sofar_at t q ns {closed} {closed'} {es} {es'} {o} {o'} c e f h =
-    subst (λ x. Sofar t q closed' ns es' (port_list x)) f (subst (λ x. Sofar t q closed' ns x (port_list o)) e (subst (λ x. Sofar t q x ns es (port_list o)) c h))
-
-pub only_passes : (s : Statement) → ((e : Element) → s ≡ Adds e → ⊥) → ((p : PortRecord) → s ≡ Opens p → ⊥) → (s ≡ Closes → ⊥) → s ≡ Passes
-only_passes Passes a b c = refl
-only_passes (Adds e) a b c = absurd (a e refl)
-only_passes (Opens p) a b c = absurd (b p refl)
-only_passes Closes a b c = absurd (c refl)
-
-pub empty_yes : (xs ys : List Element) (r : Bool) → xs ≡ ys → r ≡ eqb (length xs) 0 → r ≡ true → length ys ≡ 0
-empty_yes xs ys r e f g = let l = ap length e in grind (arith, nat_tests)
-
-pub empty_no : (xs ys : List Element) (r : Bool) → xs ≡ ys → r ≡ eqb (length xs) 0 → r ≡ false → length ys ≡ 0 → ⊥
-empty_no xs ys r e f g z = let l = ap length e in grind (arith, nat_tests)
-
--- a line by its place and its length
-pub span_line : (t : List ℕ) (a b : ℕ) → LineTo t a b → LineTo t a (a + (b - a))
-span_line t a b x = let low = x.low in let e : b ≡ a + (b - a) = omega arith in subst (LineTo t a) e x
-
-pub span_next : (t : List ℕ) (a b q : ℕ) → a ≤ b → NextStart t b q → NextStart t (a + (b - a)) q
-span_next t a b q low x = let e : b ≡ a + (b - a) = omega arith in subst (λ n. NextStart t n q) e x
-
--- one more element, where there is room
-pub fits : (es : List Element) (e : Element) → length es < most_elements → take most_elements (es ++ e ∷ []) ≡ es ++ e ∷ []
-fits es e l = take_all most_elements (es ++ e ∷ []) (omega (arith, length_push es e))

@@ -1,19 +1,18 @@
 -- The nodes that a line enters, and the faults of its ends.
-use Rattle.std.proofs.Common.{◌≡◌, ℕ, ◌<◌, ◌≤◌, List, [], ◌∷◌, map, length, Some, None, sym, refl, ap, ◌∙◌, subst, inr, ⊎_elim, arith}
+use Rattle.std.proofs.Common.{◌≡◌, ℕ, ◌<◌, List, [], ◌∷◌, map, length, Some, None, sym, refl, ap, ◌∙◌, subst, inl, inr, ⊎_elim, arith}
 use Rattle.std.specs.Char.{to_ascii_lowercase}
 use Rattle.std.proofs.lemmas.List.{get_or_append_left, length_push}
 use Rattle.cut.specs.Cuts.{bytes}
 use Rattle.cut.specs.declared.Span.{Span}
 use Rattle.names.specs.Alike.{Alike}
-use Rattle.refusals.specs.declared.Rule.TheVariants.{Joined}
+use Rattle.refusals.specs.declared.Rule.TheVariants.{Full}
 use Rattle.reader.specs.declared.LineKind.{LineKind}
 use Rattle.reader.specs.declared.Node.{Node}
 use Rattle.reader.specs.declared.Ends.{Ends}
-use Rattle.reader.specs.Limits.{most_nodes}
 use Rattle.reader.specs.Lines.{nth, Carries}
-use Rattle.reader.specs.Records.{Among, NumberIs}
+use Rattle.reader.specs.Records.{NumberIs}
 use Rattle.reader.specs.Faults.{EndsFault}
-use Rattle.reader.specs.Inner.{Entered, CrowdedFirst, CrowdedSecond, EndsAre}
+use Rattle.reader.specs.Inner.{Entered, Overfull, CrowdedFirst, CrowdedSecond, EndsAre}
 use Rattle.refusals.specs.Refusals.{number}
 use Rattle.refusals.specs.Order.{Least}
 
@@ -39,28 +38,22 @@ module _ (t : List ℕ) (ns : List Node) (s : Span) where
       ))
       x
 
-module _ (t : List ℕ) (kd : LineKind) (fs : List Span) (ns mid : List Node) (there : 2 < length fs) (carries : Carries kd)
-    (one : Entered t ns (nth fs 1) mid)
-    (room₁ : most_nodes ≤ length ns → (Among (λ n. n.name) t ns (bytes t (nth fs 1)) → ⊥) → ⊥)
-    (room₂ : most_nodes ≤ length mid → (Among (λ n. n.name) t mid (bytes t (nth fs 2)) → ⊥) → ⊥) where
-  not_first : CrowdedFirst t ns fs → ⊥
-  not_first x = room₁ x.0 x.1
-
-  not_second : CrowdedSecond t ns fs → ⊥
-  not_second x =
-      let e = entered_same t ns (nth fs 1) x.0 mid x.1 one in
-      room₂ (subst (λ l. most_nodes ≤ length l) e x.2) (subst (λ l. Among (λ n. n.name) t l (bytes t (nth fs 2)) → ⊥) e x.3)
-
-  pub ends_joined : Alike (bytes t (nth fs 1)) (bytes t (nth fs 2)) → Least (EndsFault t kd fs (CrowdedFirst t ns fs) (CrowdedSecond t ns fs)) (Some (record { place = (nth fs 2).place; rule = Joined }))
-  ends_joined same = (
-    (carries, inr (refl, there, inr (same, refl))),
+-- the first end of a line is entered
+module _ (t : List ℕ) (kd : LineKind) (fs : List Span) (ns mid : List Node) (there : 2 < length fs) (carries : Carries kd) (one : Entered t ns (nth fs 1) mid) (room₁ : Overfull t ns (nth fs 1) → ⊥) where
+  pub ends_full : Overfull t mid (nth fs 2) → Least (EndsFault t kd fs (CrowdedFirst t ns fs) (CrowdedSecond t ns fs)) (Some (record { place = (nth fs 2).place; rule = Full }))
+  ends_full over = (
+    (carries, inr (refl, there, inl ((mid, one, over), refl))),
     λ p r x.
-        ⊎_elim (λ y. absurd (not_first y.2))
-        (λ y. (omega (arith, y.0), λ _. ⊎_elim (λ z. absurd (not_second z.0)) (λ z. omega (arith, ap number z.1)) y.2)) x.1,
+        ⊎_elim (λ y. absurd (room₁ y.2))
+        (λ y. (omega (arith, y.0), λ _. ⊎_elim (λ z. omega (arith, ap number z.1)) (λ z. omega (arith, ap number z.1)) y.2)) x.1,
   )
 
-  pub ends_fine : (Alike (bytes t (nth fs 1)) (bytes t (nth fs 2)) → ⊥) → Least (EndsFault t kd fs (CrowdedFirst t ns fs) (CrowdedSecond t ns fs)) None
-  ends_fine other p r x = ⊎_elim (λ y. not_first y.2) (λ y. ⊎_elim (λ z. not_second z.0) (λ z. other z.0) y.2) x.1
+  -- and the second
+  module _ (room₂ : Overfull t mid (nth fs 2) → ⊥) where
+    pub ends_fine : (Alike (bytes t (nth fs 1)) (bytes t (nth fs 2)) → ⊥) → Least (EndsFault t kd fs (CrowdedFirst t ns fs) (CrowdedSecond t ns fs)) None
+    ends_fine other p r x =
+        ⊎_elim (λ y. room₁ y.2)
+        (λ y. ⊎_elim (λ z. room₂ (subst (λ l. Overfull t l (nth fs 2)) (entered_same t ns (nth fs 1) z.0.0 mid z.0.1 one) z.0.2)) (λ z. other z.0) y.2) x.1
 
-  pub ends_are : (after : List Node) (e : Ends) → Entered t mid (nth fs 2) after → NumberIs t mid (nth fs 1) e.from.index → NumberIs t after (nth fs 2) e.to.index → EndsAre t kd fs ns after (Some e)
-  ends_are after e two from to = (carries, (mid, one, two, number_later t mid (nth fs 2) after (nth fs 1) e.from.index two from, to))
+    pub ends_are : (after : List Node) (e : Ends) → Entered t mid (nth fs 2) after → NumberIs t mid (nth fs 1) e.from.index → NumberIs t after (nth fs 2) e.to.index → EndsAre t kd fs ns after (Some e)
+    ends_are after e two from to = (carries, (mid, one, two, number_later t mid (nth fs 2) after (nth fs 1) e.from.index two from, to))

@@ -1,5 +1,5 @@
 -- The first five fields of a line tell its first fault.
-use Rattle.std.proofs.Common.{◌≡◌, ℕ, ◌<◌, ◌≤◌, ◌⊎◌, List, [], ◌∷◌, length, get_or, take, Option, sym, refl, ap, ◌∙◌, subst, inl, inr, ⊎_elim, arith, length-take-le, take_all, get_or-take}
+use Rattle.std.proofs.Common.{◌≡◌, ℕ, ◌<◌, ◌≤◌, ◌⊎◌, List, [], ◌∷◌, length, get_or, take, true, is_some, Option, sym, refl, ap, ◌∙◌, subst, inl, inr, ⊎_elim, arith, length-take-le, take_all, get_or-take}
 use Rattle.std.proofs.lemmas.Bool.{cases_lt}
 use Rattle.std.proofs.ByRecursion.{All-get_or}
 use Rattle.cut.specs.Cuts.{bytes, FieldsIn, stop}
@@ -14,13 +14,13 @@ use Rattle.refusals.specs.declared.Rule.TheVariants.{Shape, Full, Joined}
 use Rattle.refusals.specs.declared.Fault.{Fault}
 use Rattle.reader.specs.declared.LineKind.{LineKind}
 use Rattle.reader.specs.declared.LineKind.TheVariants.{Passed, Part, Port, Close, Strange}
-use Rattle.reader.specs.declared.Element.{Element}
 use Rattle.reader.specs.declared.Node.{Node}
-use Rattle.reader.specs.Limits.{most_elements, most_nodes}
+use Rattle.reader.specs.declared.reading.Reading.{Reading}
+use Rattle.reader.specs.Limits.{most_elements}
 use Rattle.reader.specs.Lines.{nowhere, nth, kind_of_line, width, Carries}
 use Rattle.reader.specs.Records.{Among}
-use Rattle.reader.specs.Faults.{FormFault, rule_for, NameRule, LineFaultBy}
-use Rattle.reader.specs.Inner.{Entered, CrowdedFirst, CrowdedSecond}
+use Rattle.reader.specs.Faults.{FormFault, rule_for, NameRule}
+use Rattle.reader.specs.Inner.{Entered, Overfull, ReaderFault}
 use Rattle.refusals.specs.Order.{NotBefore, Least}
 use Rattle.refusals.proofs.Leasts.{least_cover, not_before_self}
 
@@ -68,9 +68,9 @@ module _ (t : List ℕ) (a b : ℕ) (few fs : List Span) (cut : FieldsIn t a b f
   few_short : (n : ℕ) → length fs < n → length few < n
   few_short n l = ⊎_elim (λ x. omega (arith, x.0, x.1)) (λ x. omega (arith, x.0)) count_few
 
-  module _ (kd : LineKind) (es : List Element) (ns : List Node) (P : Type 0) where
+  module _ (kd : LineKind) (so : Reading) where
     abbrev G : List Span → ℕ → Rule → Type 0
-    G xs = LineFaultBy t a b xs kd (Among (λ e. e.name) t es (bytes t (nth xs 0))) (most_elements ≤ length es) P (CrowdedFirst t ns xs) (CrowdedSecond t ns xs)
+    G xs = ReaderFault t a b xs kd so
 
     same₀ : nth few 0 ≡ nth fs 0
     same₀ = nth_few 0 (omega arith)
@@ -85,15 +85,15 @@ module _ (t : List ℕ) (a b : ℕ) (few fs : List Span) (cut : FieldsIn t a b f
     same₃ = nth_few 3 (omega arith)
 
     abbrev NameAt : Span → ℕ → ℕ → Rule → Type 0
-    NameAt f n p r = (p ≡ f.place) × ((0 < n) × NameRule kd (Among (λ e. e.name) t es (bytes t f)) (most_elements ≤ length es) P r)
+    NameAt f n p r = (p ≡ f.place) × ((0 < n) × NameRule kd (Among (λ e. e.name) t so.elements (bytes t f)) (most_elements ≤ length so.elements) (is_some so.port ≡ true) r)
 
     abbrev ValueAt : Span → ℕ → ℕ → Rule → Type 0
     ValueAt f n p r = (p ≡ f.place) × ((s : Kind) × (w : Wrong) × (kd ≡ Part s) × (3 < n) × ValueFault s (bytes t f) w × (r ≡ rule_for w))
 
     abbrev EndsAt : Span → Span → ℕ → ℕ → Rule → Type 0
     EndsAt f g n p r =
-        Carries kd × (((p ≡ f.place) × (1 < n) × ((most_nodes ≤ length ns) × (Among (λ n. n.name) t ns (bytes t f) → ⊥)) × (r ≡ Full))
-        ⊎ ((p ≡ g.place) × (2 < n) × ((((ns' : List Node) × Entered t ns f ns' × (most_nodes ≤ length ns') × (Among (λ n. n.name) t ns' (bytes t g) → ⊥)) × (r ≡ Full)) ⊎ (Alike (bytes t f) (bytes t g) × (r ≡ Joined)))))
+        Carries kd × (((p ≡ f.place) × (1 < n) × Overfull t so.nodes f × (r ≡ Full))
+        ⊎ ((p ≡ g.place) × (2 < n) × ((((mid : List Node) × Entered t so.nodes f mid × Overfull t mid g) × (r ≡ Full)) ⊎ (Alike (bytes t f) (bytes t g) × (r ≡ Joined)))))
 
     name_length : (f : Span) (m n p : ℕ) (r : Rule) → (0 < m → 0 < n) → NameAt f m p r → NameAt f n p r
     name_length f m n p r l x = (x.0, (l x.1.0, x.1.1))

@@ -1,5 +1,5 @@
 -- The contract of the reader leaves one answer.
-use Rattle.std.proofs.Common.{◌≡◌, ℕ, cond, eqb, List, [], ◌∷◌, length, get_or, Ok, Err, sym, refl, ap, ◌∙◌, subst, ⊎_elim, arith}
+use Rattle.std.proofs.Common.{◌≡◌, ℕ, cond, eqb, List, [], ◌∷◌, length, get_or, Ok, Err, Result, MatchResult, sym, refl, ap, ◌∙◌, subst, ⊎_elim, arith}
 use Rattle.std.proofs.lemmas.Bool.{cases_order}
 use Rattle.cut.specs.Cuts.{bytes}
 use Rattle.cut.specs.declared.Span.{Span}
@@ -89,10 +89,8 @@ module _ (t : List ℕ) where
   not_both : (d : Listing) (f : Fault) → Reads t d → Refuses t f → ⊥
   not_both d f a b = a.clean f.place f.rule b.0
 
-  pub only_read : (d : Listing) → Reads t d → Only t (Ok d)
-  only_read d a (Ok d') b = one_reading d d' a b
-  only_read d a (Err f) b = not_both d f a b
-
-  pub only_refused : (f : Fault) → Refuses t f → Only t (Err f)
-  only_refused f a (Ok d) b = not_both d f b a
-  only_refused f a (Err g) b = one_refusal f g a b
+  pub only_answer : (r : Result Listing Fault) → MatchResult r (Reads t) (Refuses t) → Only t r
+  only_answer (Ok d) a (Ok d') b = one_reading d d' a b
+  only_answer (Ok d) a (Err f) b = not_both d f a b
+  only_answer (Err f) a (Ok d) b = not_both d f b a
+  only_answer (Err f) a (Err g) b = one_refusal f g a b

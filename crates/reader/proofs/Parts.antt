@@ -1,5 +1,5 @@
 -- The parts of a line's faults: its value, its name, its ends.
-use Rattle.std.proofs.Common.{◌≡◌, ℕ, ◌<◌, ◌≤◌, List, [], ◌∷◌, ◌++◌, map, length, get_or, take, Some, None, sym, refl, ap, ◌∙◌, subst, inl, inr, ⊎_elim, arith, take_all}
+use Rattle.std.proofs.Common.{◌≡◌, ℕ, ◌<◌, List, [], ◌∷◌, ◌++◌, map, length, get_or, take, Some, None, sym, refl, ap, ◌∙◌, subst, inl, inr, ⊎_elim, arith, take_all}
 use Rattle.std.specs.Char.{to_ascii_lowercase}
 use Rattle.std.specs.List.{HoldsAt, AllWithin}
 use Rattle.std.proofs.lemmas.List.{get_or_append_left, get_or_default, get_or_push, length_push}
@@ -12,7 +12,7 @@ use Rattle.values.specs.declared.Kind.{Kind}
 use Rattle.values.specs.declared.Wrong.{Wrong}
 use Rattle.values.proofs.Numerals.{value_fine, fault_only}
 use Rattle.refusals.specs.declared.Rule.{Rule}
-use Rattle.refusals.specs.declared.Rule.TheVariants.{Twice, Full}
+use Rattle.refusals.specs.declared.Rule.TheVariants.{Full}
 use Rattle.reader.specs.declared.LineKind.{LineKind}
 use Rattle.reader.specs.declared.LineKind.TheVariants.{Part}
 use Rattle.reader.specs.declared.Node.{Node}
@@ -20,7 +20,7 @@ use Rattle.reader.specs.Limits.{most_nodes}
 use Rattle.reader.specs.Lines.{nth}
 use Rattle.reader.specs.Records.{Among, NumberIs}
 use Rattle.reader.specs.Faults.{rule_for, ValueFaultAt, NameFault}
-use Rattle.reader.specs.Inner.{Entered, ValueIs}
+use Rattle.reader.specs.Inner.{Overfull, Entered, ValueIs}
 use Rattle.refusals.specs.Refusals.{number}
 use Rattle.refusals.specs.Order.{Least}
 
@@ -46,20 +46,10 @@ module _ (t : List ℕ) (kd : LineKind) (fs : List Span) (s : Kind) (bs : List �
       )
 
 module _ {X : Type 0} (name : X → Span) (t : List ℕ) (xs : List X) (bs bs' : List ℕ) (e : bs ≡ bs') where
-  pub found_among : (i : ℕ) → i < length xs → HoldsAt (λ x. Alike (bytes t (name x)) bs) xs i → Among name t xs bs'
-  found_among i l h = (i, l, λ d. h d ∙ ap (map to_ascii_lowercase) e)
-
   pub none_among : X → AllWithin (λ x. Alike (bytes t (name x)) bs → ⊥) xs 0 (length xs) → Among name t xs bs' → ⊥
   none_among d h x = h x.0 d (omega arith) x.1 (x.2 d ∙ ap (map to_ascii_lowercase) (sym e))
 
 module _ (kd : LineKind) (fs : List Span) (s : Kind) (U F P : Type 0) (is : kd ≡ Part s) where
-  pub name_twice : 0 < length fs → U → Least (NameFault kd fs U F P) (Some (record { place = (nth fs 0).place; rule = Twice }))
-  name_twice l u =
-      subst (λ k. Least (NameFault k fs U F P) (Some (record { place = (nth fs 0).place; rule = Twice }))) (sym is) (
-        (refl, (l, inl (u, refl))),
-        λ p r x. (omega (arith, x.0), λ _. ⊎_elim (λ y. omega (arith, ap number y.1)) (λ y. omega (arith, ap number y.1)) x.1.1),
-      )
-
   pub name_full : 0 < length fs → (U → ⊥) → F → Least (NameFault kd fs U F P) (Some (record { place = (nth fs 0).place; rule = Full }))
   name_full l n f =
       subst (λ k. Least (NameFault k fs U F P) (Some (record { place = (nth fs 0).place; rule = Full }))) (sym is) (
@@ -73,7 +63,7 @@ module _ (kd : LineKind) (fs : List Span) (s : Kind) (U F P : Type 0) (is : kd �
 -- a name is found among the nodes, or is entered at their end
 module _ (t : List ℕ) (ns : List Node) (s : Span) (xs : List Node) (bs : List ℕ) (same : xs ≡ ns) (e : bs ≡ bytes t s) where
   abbrev pub EnteredAs : List Node → ℕ → Type 0
-  EnteredAs ns' i = Entered t ns s ns' × NumberIs t ns' s i × (most_nodes ≤ length ns → (Among (λ n. n.name) t ns (bytes t s) → ⊥) → ⊥)
+  EnteredAs ns' i = Entered t ns s ns' × NumberIs t ns' s i × (Overfull t ns s → ⊥)
 
   abbrev pub First : List Node → List ℕ → ℕ → Type 0
   First ys cs i = (i < length ys) × HoldsAt (λ n. Alike (bytes t n.name) cs) ys i × AllWithin (λ n. Alike (bytes t n.name) cs → ⊥) ys 0 i
@@ -81,7 +71,7 @@ module _ (t : List ℕ) (ns : List Node) (s : Span) (xs : List Node) (bs : List 
   pub enter_old : (i : ℕ) → First xs bs i → EnteredAs ns i
   enter_old i h =
       let h' = subst (λ cs. First ns cs i) e (subst (λ ys. First ys bs i) same h) in
-      (inl ((i, h'.0, h'.1), refl), h', λ _ n. n (i, h'.0, h'.1))
+      (inl ((i, h'.0, h'.1), refl), h', λ o. o.1 (i, h'.0, h'.1))
 
   pub no_node : AllWithin (λ n. Alike (bytes t n.name) bs → ⊥) xs 0 (length xs) → Among (λ n. n.name) t ns (bytes t s) → ⊥
   no_node h = none_among (λ n. n.name) t ns bs (bytes t s) e (record { name = s }) (subst (λ ys. AllWithin (λ n. Alike (bytes t n.name) bs → ⊥) ys 0 (length ys)) same h)
@@ -97,7 +87,7 @@ module _ (t : List ℕ) (ns : List Node) (s : Span) (xs : List Node) (bs : List 
         λ d. ap (λ m. map to_ascii_lowercase (bytes t m.name)) (get_or_push ns x d i (sym q)),
         λ k d low m a. n (k, omega (arith, q), λ d'. ap (λ m'. map to_ascii_lowercase (bytes t m'.name)) (get_same k d' d (omega (arith, q))) ∙ a),
       ) in
-      (inr (n, p), subst (λ ys. First ys (bytes t s) i) (sym p) first, λ m _. omega arith)
+      (inr (n, p), subst (λ ys. First ys (bytes t s) i) (sym p) first, λ o. omega (arith, o.0))
     where
       get_same : (k : ℕ) (d' d : Node) → k < length ns → get_or ns k d' ≡ get_or (ns ++ record { name = s } ∷ []) k d
       get_same k d' d l = get_or_default ns k d' d l ∙ sym (get_or_append_left ns (record { name = s } ∷ []) d k l)

@@ -1,24 +1,23 @@
 -- What the functions within the reader promise. The contract of `read` does not rest on it.
-use Rattle.std.specs.Prelude.{◌≡◌, ℕ, ◌+◌, ◌<◌, ◌≤◌, Bool, true, cond, ◌⊎◌, List, [], ◌∷◌, ◌++◌, length, Some, None, Option, Result, MatchResult, ◌==◌}
-use Rattle.cut.specs.Cuts.{bytes, FieldsIn}
+use Rattle.std.specs.Prelude.{◌≡◌, ℕ, ◌+◌, ◌<◌, ◌≤◌, Bool, true, false, cond, ◌⊎◌, List, [], ◌∷◌, ◌++◌, length, take, is_some, Some, None, Option, ◌==◌}
+use Rattle.cut.specs.Cuts.{bytes, stop, StartsLine, FieldsIn}
 use Rattle.cut.specs.declared.Span.{Span}
 use Rattle.values.specs.Values.{Valued}
 use Rattle.values.specs.declared.counted.Value.{Value}
 use Rattle.values.specs.declared.Kind.{Kind}
 use Rattle.refusals.specs.declared.Rule.{Rule}
+use Rattle.reader.specs.declared.line.CutLine.{CutLine}
 use Rattle.reader.specs.declared.LineKind.{LineKind}
 use Rattle.reader.specs.declared.LineKind.TheVariants.{Passed, Part, Port, Close, Strange}
-use Rattle.refusals.specs.declared.Fault.{Fault}
-use Rattle.reader.specs.declared.Statement.{Statement}
-use Rattle.reader.specs.declared.Statement.TheVariants.{Passes, Adds, Opens, Closes}
+use Rattle.reader.specs.declared.reading.Reading.{Reading}
 use Rattle.reader.specs.declared.Ends.{Ends}
 use Rattle.reader.specs.declared.Node.{Node}
 use Rattle.reader.specs.declared.Element.{Element}
+use Rattle.reader.specs.declared.PortRecord.{PortRecord}
 use Rattle.reader.specs.Limits.{most_elements, most_nodes}
-use Rattle.reader.specs.Lines.{nth, kind_of_line, past, Carries}
-use Rattle.reader.specs.Records.{Among, NumberIs}
-use Rattle.reader.specs.Faults.{LineFaultBy}
-use Rattle.refusals.specs.Order.{Least}
+use Rattle.reader.specs.Lines.{nth, past, Carries, Closed}
+use Rattle.reader.specs.Records.{Among, Nodes, NumberIs, Names, Elements, Ports}
+use Rattle.reader.specs.Faults.{LineFaultBy, FaultBefore}
 
 -- the kind as which a line that starts at a stands, by whether .end came before
 abbrev pub standing : ℕ → Bool → LineKind → LineKind
@@ -28,6 +27,10 @@ standing a closed kd = cond (a == 0) Passed (cond closed (past kd) kd)
 abbrev pub NextStart : List ℕ → ℕ → ℕ → Type 0
 NextStart t b q = (b < length t → q ≡ b + 1) × (length t ≤ b → q ≡ b)
 
+-- there is no room for the node s
+abbrev pub Overfull : List ℕ → List Node → Span → Type 0
+Overfull t ns s = (most_nodes ≤ length ns) × (Among (λ n. n.name) t ns (bytes t s) → ⊥)
+
 -- the nodes with one more, if it is new
 abbrev pub Entered : List ℕ → List Node → Span → List Node → Type 0
 Entered t ns s ns' =
@@ -36,17 +39,24 @@ Entered t ns s ns' =
 
 -- a node too many as the first or the second end of a line, where the nodes so far are ns
 abbrev pub CrowdedFirst : List ℕ → List Node → List Span → Type 0
-CrowdedFirst t ns fs = (most_nodes ≤ length ns) × (Among (λ n. n.name) t ns (bytes t (nth fs 1)) → ⊥)
+CrowdedFirst t ns fs = Overfull t ns (nth fs 1)
 
 abbrev pub CrowdedSecond : List ℕ → List Node → List Span → Type 0
-CrowdedSecond t ns fs = (ns' : List Node) × Entered t ns (nth fs 1) ns' × (most_nodes ≤ length ns') × (Among (λ n. n.name) t ns' (bytes t (nth fs 2)) → ⊥)
+CrowdedSecond t ns fs = (ns' : List Node) × Entered t ns (nth fs 1) ns' × Overfull t ns' (nth fs 2)
 
--- the faults of a line as the reader knows them: whether the listing is closed, its elements, whether it has a port, and its nodes
-abbrev pub ReaderFault : List ℕ → ℕ → ℕ → Bool → List Element → Bool → List Node → List Span → ℕ → Rule → Type 0
-ReaderFault t a b closed es ported ns fs p r =
-    LineFaultBy t a b fs (standing a closed (kind_of_line t fs))
-    (Among (λ e. e.name) t es (bytes t (nth fs 0))) (most_elements ≤ length es) (ported ≡ true)
-    (CrowdedFirst t ns fs) (CrowdedSecond t ns fs) p r
+-- the faults of a line with the fields fs that stands as kd, by what the lines before it hold
+abbrev pub ReaderFault : List ℕ → ℕ → ℕ → List Span → LineKind → Reading → ℕ → Rule → Type 0
+ReaderFault t a b fs kd x p r =
+    LineFaultBy t a b fs kd
+    (Among (λ e. e.name) t x.elements (bytes t (nth fs 0))) (most_elements ≤ length x.elements) (is_some x.port ≡ true)
+    (CrowdedFirst t x.nodes fs) (CrowdedSecond t x.nodes fs) p r
+
+-- fs are all the fields of the line
+abbrev pub CutInto : CutLine → List Span → Type 0
+CutInto l fs = FieldsIn l.text.now l.span.place (stop l.span) fs × (l.fields.now ≡ take 5 fs)
+
+abbrev pub FaultOf : CutLine → List Span → Reading → ℕ → Rule → Type 0
+FaultOf l fs x = ReaderFault l.text.now l.span.place (stop l.span) fs l.kind x
 
 -- the numbers of the two ends of a line, where the nodes are ns before it and ns' after it
 abbrev pub BothEnds : List ℕ → List Span → List Node → List Node → Ends → Type 0
@@ -62,15 +72,30 @@ abbrev pub ValueIs : List ℕ → LineKind → List Span → Option Value → Ty
 ValueIs t kd fs None = (s : Kind) → kd ≡ Part s → 3 < length fs → ⊥
 ValueIs t kd fs (Some v) = (s : Kind) × (kd ≡ Part s) × Valued s (bytes t (nth fs 3)) v.value
 
--- what a line says that stands as kd
-abbrev pub Says : List ℕ → LineKind → List Span → List Node → List Node → Statement → Type 0
-Says t kd fs ns ns' Passes = ((kd ≡ Passed) ⊎ (kd ≡ Strange)) × (ns' ≡ ns)
-Says t kd fs ns ns' (Adds e) = (kd ≡ Part e.kind) × (e.name ≡ nth fs 0) × BothEnds t fs ns ns' e.ends × Valued e.kind (bytes t (nth fs 3)) e.value.value
-Says t kd fs ns ns' (Opens p) = (kd ≡ Port) × (p.name ≡ nth fs 0) × BothEnds t fs ns ns' p.ends
-Says t kd fs ns ns' Closes = (kd ≡ Close) × (ns' ≡ ns)
+-- what a line with the fields fs that stands as kd adds to what the lines before it hold
+abbrev pub Taken : List ℕ → List Span → LineKind → Reading → Reading → Type 0
+Taken t fs Passed x y = y ≡ x
+Taken t fs (Part s) x y =
+    (e : Element) × (e.name ≡ nth fs 0) × (e.kind ≡ s) × BothEnds t fs x.nodes y.nodes e.ends × Valued s (bytes t (nth fs 3)) e.value.value
+    × (y ≡ record { nodes = y.nodes; elements = x.elements ++ e ∷ []; port = x.port; closed = x.closed })
+Taken t fs Port x y =
+    (p : PortRecord) × (p.name ≡ nth fs 0) × BothEnds t fs x.nodes y.nodes p.ends
+    × (y ≡ record { nodes = y.nodes; elements = x.elements; port = Some p; closed = x.closed })
+Taken t fs Close x y = y ≡ record { nodes = x.nodes; elements = x.elements; port = x.port; closed = true }
+Taken t fs Strange x y = y ≡ x
 
--- the answer of the reader for one line
-abbrev pub StatementIs : List ℕ → ℕ → ℕ → Bool → List Element → Bool → List Node → List Node → Result Statement Fault → Type 0
-StatementIs t a b closed es ported ns ns' r =
-    (fs : List Span) × FieldsIn t a b fs
-    × MatchResult r (λ s. Least (ReaderFault t a b closed es ported ns fs) None × Says t (standing a closed (kind_of_line t fs)) fs ns ns' s) (λ f. Least (ReaderFault t a b closed es ported ns fs) (Some f))
+abbrev pub port_list : Option PortRecord → List PortRecord
+port_list None = []
+port_list (Some p) = p ∷ []
+
+-- x is what the lines before q hold, and they have no fault
+pub record Sofar (t : List ℕ) (q : ℕ) (x : Reading) : Type 0 where
+  pub top : q ≤ length t
+  pub begins : q < length t → StartsLine t q
+  pub shut : x.closed ≡ true → Closed t q
+  pub still : x.closed ≡ false → Closed t q → ⊥
+  pub clean : (p : ℕ) (r : Rule) → FaultBefore t q p r → ⊥
+  pub nodes : Nodes t q x.nodes
+  pub elements : Elements t q x.nodes x.elements
+  pub ports : Ports t q x.nodes (port_list x.port)
+  pub names : (ss : List Span) × Names t q ss × (length ss ≡ length x.elements)

@@ -8,49 +8,11 @@ ghost use Rattle.reader.specs.Records.{Among};
 ghost use Rattle.reader.specs.Faults.{FormsFault, LongFault, MissingFault, ValueFaultAt, NameFault, PlainFault, rule_for};
 ghost use Rattle.reader.specs.Inner.{ValueIs};
 
-use crate::words::form_fault;
+use crate::line::CutLine;
 use crate::{Element, LARGEST_LINE, LineKind, MOST_ELEMENTS};
-use cut::Span;
 use names::find;
 use refusals::{Fault, Rule, sooner};
 use values::{Value, Wrong, value_of};
-
-fn long_fault(line: Span) -> Option<Fault>
-    requires { stop_of line < 18446744073709551616 }
-    ensures { Least (LongFault line.place (stop_of line)) result }
-{
-    if line.len > LARGEST_LINE {
-        Some(Fault {
-            place: line.place + LARGEST_LINE,
-            rule: Rule::TooLong,
-        })
-    } else {
-        None
-    }
-}
-
-fn missing_fault(end: usize, kind: LineKind, count: usize) -> Option<Fault>
-    ensures { Least (MissingFault end kind count) result }
-{
-    if count < kind.width() {
-        Some(Fault {
-            place: end,
-            rule: Rule::Shape,
-        })
-    } else {
-        None
-    }
-}
-
-fn forms_fault(text: &[u8], kind: LineKind, fields: &[Span]) -> Option<Fault>
-    ensures { Least (FormsFault text.now kind fields.now (length fields.now)) result }
-{
-    let mut least = None;
-    for (k, field) in fields.iter().enumerate() {
-        least = sooner(least, form_fault(text, kind, k, *field));
-    }
-    least
-}
 
 fn rule_of(wrong: Wrong) -> Rule
     ensures { result ≡ rule_for wrong }
@@ -61,78 +23,84 @@ fn rule_of(wrong: Wrong) -> Rule
     }
 }
 
-// The value of an element, none where the line is of another kind or has no fourth field.
-pub(crate) fn value_at(text: &[u8], kind: LineKind, fields: &[Span]) -> Result<Option<Value>, Fault>
-    ensures { MatchResult result
-        (λ v. Least (ValueFaultAt text.now kind fields.now) None × ValueIs text.now kind fields.now v)
-        (λ f. Least (ValueFaultAt text.now kind fields.now) (Some f)) }
-{
-    let LineKind::Part(part) = kind else {
-        return Ok(None);
-    };
-    let [_, _, _, field, ..] = fields else {
-        return Ok(None);
-    };
-    match value_of(part, field.of(text)) {
-        Ok(value) => Ok(Some(value)),
-        Err(wrong) => Err(Fault {
-            place: field.place,
-            rule: rule_of(wrong),
-        }),
-    }
-}
-
-// The name of an element is used before, or there are elements enough; or there is a port already.
-fn name_fault(
-    text: &[u8],
-    kind: LineKind,
-    fields: &[Span],
-    elements: &[Element],
-    ported: bool,
-) -> Option<Fault>
-    ensures { Least (NameFault kind fields.now (Among (λ e. e.name) text.now elements.now (bytes text.now (nth fields.now 0))) (most_elements ≤ length elements.now) (ported ≡ true)) result }
-{
-    let [name, ..] = fields else {
-        return None;
-    };
-    if let LineKind::Part(_) = kind {
-        if let Some(_) = find(elements, text, name.of(text)) {
-            Some(Fault {
-                place: name.place,
-                rule: Rule::Twice,
-            })
-        } else if elements.len() >= MOST_ELEMENTS {
-            Some(Fault {
-                place: name.place,
-                rule: Rule::Full,
-            })
+impl CutLine<'_> {
+    fn long_fault(&self) -> Option<Fault>
+        ensures { Least (LongFault self.now.span.place (stop_of self.now.span)) result }
+    {
+        if self.span.len > LARGEST_LINE {
+            Some(Rule::TooLong.at(self.span.place + LARGEST_LINE))
         } else {
             None
         }
-    } else if let (LineKind::Port, true) = (kind, ported) {
-        Some(Fault {
-            place: name.place,
-            rule: Rule::Twice,
-        })
-    } else {
-        None
     }
-}
 
-// The first fault of a line, but for its value and its ends.
-pub(crate) fn plain_fault(
-    text: &[u8],
-    line: Span,
-    kind: LineKind,
-    fields: &[Span],
-    elements: &[Element],
-    ported: bool,
-) -> Option<Fault>
-    requires { stop_of line ≤ length text.now }
-    ensures { Least (PlainFault text.now line.place (stop_of line) fields.now kind (Among (λ e. e.name) text.now elements.now (bytes text.now (nth fields.now 0))) (most_elements ≤ length elements.now) (ported ≡ true)) result }
-{
-    let missing = missing_fault(line.place + line.len, kind, fields.len());
-    let name = name_fault(text, kind, fields, elements, ported);
-    let forms = forms_fault(text, kind, fields);
-    sooner(long_fault(line), sooner(forms, sooner(missing, name)))
+    fn missing_fault(&self) -> Option<Fault>
+        ensures { Least (MissingFault (stop_of self.now.span) self.now.kind (length self.now.fields.now)) result }
+    {
+        if self.fields.len() < self.kind.width() {
+            Some(Rule::Shape.at(self.span.place + self.span.len))
+        } else {
+            None
+        }
+    }
+
+    fn forms_fault(&self) -> Option<Fault>
+        ensures { Least (FormsFault self.now.text.now self.now.kind self.now.fields.now (length self.now.fields.now)) result }
+    {
+        let mut least = None;
+        for (k, field) in self.fields.iter().enumerate() {
+            least = sooner(least, self.form_fault(k, *field));
+        }
+        least
+    }
+
+    // The value of an element, none where the line is of another kind or has no fourth field.
+    pub(crate) fn value(&self) -> Result<Option<Value>, Fault>
+        ensures { MatchResult result
+            (λ v. Least (ValueFaultAt self.now.text.now self.now.kind self.now.fields.now) None × ValueIs self.now.text.now self.now.kind self.now.fields.now v)
+            (λ f. Least (ValueFaultAt self.now.text.now self.now.kind self.now.fields.now) (Some f)) }
+    {
+        let LineKind::Part(part) = self.kind else {
+            return Ok(None);
+        };
+        let [_, _, _, field, ..] = self.fields else {
+            return Ok(None);
+        };
+        match value_of(part, field.of(self.text)) {
+            Ok(value) => Ok(Some(value)),
+            Err(wrong) => Err(rule_of(wrong).at(field.place)),
+        }
+    }
+
+    // The name of an element is used before, or there are elements enough; or there is a port already.
+    fn name_fault(&self, elements: &[Element], ported: bool) -> Option<Fault>
+        ensures { Least (NameFault self.now.kind self.now.fields.now (Among (λ e. e.name) self.now.text.now elements.now (bytes self.now.text.now (nth self.now.fields.now 0))) (most_elements ≤ length elements.now) (ported ≡ true)) result }
+    {
+        let [name, ..] = self.fields else {
+            return None;
+        };
+        match self.kind {
+            LineKind::Part(_) => {
+                if let Some(_) = find(elements, self.text, name.of(self.text)) {
+                    Some(Rule::Twice.at(name.place))
+                } else if elements.len() >= MOST_ELEMENTS {
+                    Some(Rule::Full.at(name.place))
+                } else {
+                    None
+                }
+            }
+            LineKind::Port if ported => Some(Rule::Twice.at(name.place)),
+            _ => None,
+        }
+    }
+
+    // The first fault of the line, but for its value and its ends.
+    pub(crate) fn plain_fault(&self, elements: &[Element], ported: bool) -> Option<Fault>
+        ensures { Least (PlainFault self.now.text.now self.now.span.place (stop_of self.now.span) self.now.fields.now self.now.kind (Among (λ e. e.name) self.now.text.now elements.now (bytes self.now.text.now (nth self.now.fields.now 0))) (most_elements ≤ length elements.now) (ported ≡ true)) result }
+    {
+        let missing = self.missing_fault();
+        let name = self.name_fault(elements, ported);
+        let forms = self.forms_fault();
+        sooner(self.long_fault(), sooner(forms, sooner(missing, name)))
+    }
 }

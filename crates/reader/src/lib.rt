@@ -2,6 +2,7 @@
 #![tactic(auto)]
 
 mod faults;
+mod line;
 mod line_ends;
 mod reading;
 mod records;
@@ -67,15 +68,6 @@ pub struct Element {
 pub struct PortRecord {
     pub name: Span,
     pub ends: Ends,
-}
-
-// What a line says.
-#[derive(Clone, Copy)]
-pub enum Statement {
-    Passes,
-    Adds(Element),
-    Opens(PortRecord),
-    Closes,
 }
 
 // What a text without a fault holds: the nodes in the order of their first appearance, the elements in the order of the text.

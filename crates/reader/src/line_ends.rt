@@ -3,27 +3,15 @@ ghost use Rattle.std.specs.Prelude.{◌-◌, ◌<◌, ◌≤◌, length, Some, N
 ghost use Rattle.cut.specs.Cuts.{bytes};
 ghost use Rattle.names.specs.Alike.{Alike};
 ghost use Rattle.refusals.specs.Order.{Least};
-ghost use Rattle.reader.specs.Lines.{nth, Carries};
 ghost use Rattle.reader.specs.Faults.{EndsFault};
 ghost use Rattle.reader.specs.Inner.{CrowdedFirst, CrowdedSecond, EndsAre};
 
+use crate::line::CutLine;
 use crate::records::enter;
-use crate::{Ends, LineKind, MOST_NODES, Node};
+use crate::{Ends, MOST_NODES, Node};
 use cut::Span;
 use fixed::Fixed;
 use refusals::{Fault, Rule};
-
-impl LineKind {
-    // Whether such a line has two ends.
-    fn carries(self) -> bool
-        ensures { Decides result (Carries self) }
-    {
-        match self {
-            LineKind::Part(_) | LineKind::Port => true,
-            LineKind::Passed | LineKind::Close | LineKind::Strange => false,
-        }
-    }
-}
 
 fn same_name(text: &[u8], a: Span, b: Span) -> bool
     ensures { Decides result (Alike (bytes text.now a) (bytes text.now b)) }
@@ -31,42 +19,28 @@ fn same_name(text: &[u8], a: Span, b: Span) -> bool
     a.of(text).eq_ignore_ascii_case(b.of(text))
 }
 
-// The ends of a line, none where it is of another kind or a field is missing.
-pub(crate) fn ends_of(
-    text: &[u8],
-    kind: LineKind,
-    fields: &[Span],
-    nodes: &mut Fixed<Node, MOST_NODES>,
-) -> Result<Option<Ends>, Fault>
-    requires { 2 < length fields.now → (nth fields.now 1).place ≤ (nth fields.now 2).place }
-    ensures { MatchResult result
-        (λ e. Least (EndsFault text.now kind fields.now (CrowdedFirst text.now nodes.old fields.now) (CrowdedSecond text.now nodes.old fields.now)) None
-        × EndsAre text.now kind fields.now nodes.old nodes.new e)
-        (λ f. Least (EndsFault text.now kind fields.now (CrowdedFirst text.now nodes.old fields.now) (CrowdedSecond text.now nodes.old fields.now)) (Some f)) }
-{
-    if !kind.carries() || fields.len() < 2 {
-        return Ok(None);
+impl CutLine<'_> {
+    // The ends of the line, none where it is of another kind or a field is missing.
+    pub(crate) fn ends(&self, nodes: &mut Fixed<Node, MOST_NODES>) -> Result<Option<Ends>, Fault>
+        ensures { MatchResult result
+            (λ e. Least (EndsFault self.now.text.now self.now.kind self.now.fields.now (CrowdedFirst self.now.text.now nodes.old self.now.fields.now) (CrowdedSecond self.now.text.now nodes.old self.now.fields.now)) None
+            × EndsAre self.now.text.now self.now.kind self.now.fields.now nodes.old nodes.new e)
+            (λ f. Least (EndsFault self.now.text.now self.now.kind self.now.fields.now (CrowdedFirst self.now.text.now nodes.old self.now.fields.now) (CrowdedSecond self.now.text.now nodes.old self.now.fields.now)) (Some f)) }
+    {
+        if !self.kind.carries() {
+            return Ok(None);
+        }
+        let [_, first, ..] = self.fields else {
+            return Ok(None);
+        };
+        let from = enter(self.text, nodes, *first)?;
+        let [_, _, second, ..] = self.fields else {
+            return Ok(None);
+        };
+        let to = enter(self.text, nodes, *second)?;
+        if same_name(self.text, *first, *second) {
+            return Err(Rule::Joined.at(second.place));
+        }
+        Ok(Some(Ends { from, to }))
     }
-    let Some(from) = enter(text, nodes, fields[1]) else {
-        return Err(Fault {
-            place: fields[1].place,
-            rule: Rule::Full,
-        });
-    };
-    if fields.len() < 3 {
-        return Ok(None);
-    }
-    let Some(to) = enter(text, nodes, fields[2]) else {
-        return Err(Fault {
-            place: fields[2].place,
-            rule: Rule::Full,
-        });
-    };
-    if same_name(text, fields[1], fields[2]) {
-        return Err(Fault {
-            place: fields[2].place,
-            rule: Rule::Joined,
-        });
-    }
-    Ok(Some(Ends { from, to }))
 }

@@ -1,14 +1,13 @@
 // The records of a listing by their names, and the nodes as they are entered.
-ghost use Rattle.std.specs.Prelude.{◌-◌, ◌<◌, ◌≤◌, length, MatchOption};
-ghost use Rattle.cut.specs.Cuts.{bytes};
-ghost use Rattle.reader.specs.Limits.{most_nodes};
-ghost use Rattle.reader.specs.Records.{Among, NumberIs};
-ghost use Rattle.reader.specs.Inner.{Entered};
+ghost use Rattle.std.specs.Prelude.{◌≡◌, ◌-◌, ◌<◌, ◌≤◌, MatchResult};
+ghost use Rattle.reader.specs.Records.{NumberIs};
+ghost use Rattle.reader.specs.Inner.{Entered, Overfull};
 
 use crate::{Element, MOST_NODES, Node, NodeNumber};
 use cut::Span;
 use fixed::Fixed;
 use names::{Named, find};
+use refusals::{Fault, Rule};
 
 impl Named for Element {
     ghost named = { λ e. e.name };
@@ -26,24 +25,22 @@ impl Named for Node {
     }
 }
 
-// The number of the node with this name, which is entered if it is new; none if there is no room for it.
+// The number of the node with this name, which is entered if it is new and there is room for it.
 pub(crate) fn enter(
     text: &[u8],
     nodes: &mut Fixed<Node, MOST_NODES>,
     name: Span,
-) -> Option<NodeNumber>
-    ensures { MatchOption result
-        ((most_nodes ≤ length nodes.old) × (Among (λ n. n.name) text.now nodes.old (bytes text.now name) → ⊥))
-        (λ i. Entered text.now nodes.old name nodes.new
-        × NumberIs text.now nodes.new name i.index
-        × (most_nodes ≤ length nodes.old → (Among (λ n. n.name) text.now nodes.old (bytes text.now name) → ⊥) → ⊥)) }
+) -> Result<NodeNumber, Fault>
+    ensures { MatchResult result
+        (λ i. Entered text.now nodes.old name nodes.new × NumberIs text.now nodes.new name i.index × (Overfull text.now nodes.old name → ⊥))
+        (λ f. Overfull text.now nodes.old name × (f ≡ record { place = name.place; rule = Rule.Full })) }
 {
     if let Some(index) = find(nodes.as_slice(), text, name.of(text)) {
-        return Some(NodeNumber { index });
+        return Ok(NodeNumber { index });
     }
     let index = nodes.as_slice().len();
     match nodes.push(Node { name }) {
-        Ok(()) => Some(NodeNumber { index }),
-        Err(_) => None,
+        Ok(()) => Ok(NodeNumber { index }),
+        Err(_) => Err(Rule::Full.at(name.place)),
     }
 }

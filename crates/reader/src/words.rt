@@ -1,12 +1,12 @@
 // The words of a line, and the kind that the first one gives it.
 ghost use Rattle.std.specs.Prelude.{◌≡◌, ◌-◌, ◌<◌, Decides};
-ghost use Rattle.cut.specs.Cuts.{bytes};
 ghost use Rattle.refusals.specs.Order.{Least};
-ghost use Rattle.reader.specs.Lines.{kind_of, closing, kind_of_line, past as past_end, width as field_count};
+ghost use Rattle.reader.specs.Lines.{kind_of, closing, kind_of_line, past as past_end, width as field_count, Carries};
 ghost use Rattle.reader.specs.Faults.{NameForm, FieldFormFault};
 ghost use Rattle.reader.specs.Inner.{standing};
 ghost use Rattle.reader.specs.Words.{WordIs};
 
+use crate::line::CutLine;
 use crate::{LARGEST_NAME, LineKind};
 use cut::Span;
 use refusals::{Fault, Rule};
@@ -25,14 +25,23 @@ impl LineKind {
         }
     }
 
+    // Whether such a line has two ends.
+    pub(crate) fn carries(self) -> bool
+        ensures { Decides result (Carries self) }
+    {
+        match self {
+            LineKind::Part(_) | LineKind::Port => true,
+            LineKind::Passed | LineKind::Close | LineKind::Strange => false,
+        }
+    }
+
     // What such a line is past .end.
     fn past_end(self) -> LineKind
         ensures { result ≡ past_end self }
     {
-        if let LineKind::Passed = self {
-            LineKind::Passed
-        } else {
-            LineKind::Strange
+        match self {
+            LineKind::Passed => LineKind::Passed,
+            _ => LineKind::Strange,
         }
     }
 }
@@ -99,15 +108,7 @@ pub(crate) fn standing_as(start: usize, closed: bool, kind: LineKind) -> LineKin
 fn is_name(word: &[u8]) -> bool
     ensures { Decides result (NameForm word.now) }
 {
-    if word.is_empty() || word.len() > LARGEST_NAME {
-        return false;
-    }
-    for b in word {
-        if !b.is_ascii_alphanumeric() {
-            return false;
-        }
-    }
-    true
+    !word.is_empty() && word.len() <= LARGEST_NAME && word.iter().all(|b| b.is_ascii_alphanumeric())
 }
 
 // A word of a line: its bytes, and its place in the text.
@@ -119,46 +120,38 @@ pub enum Word<'a> {
     Dot(&'a [u8], usize),
 }
 
-// What the k-th field of a line of this kind is, if such a line has so many.
-fn word_of<'a>(text: &'a [u8], kind: LineKind, k: usize, field: Span) -> Option<Word<'a>>
-    ensures { WordIs text.now kind k field result }
-{
-    let bytes = field.of(text);
-    if k >= kind.width() {
-        None
-    } else if let LineKind::Close = kind {
-        Some(Word::Dot(bytes, field.place))
-    } else if k == 0 {
-        Some(Word::Name(bytes, field.place))
-    } else if k < 3 {
-        Some(Word::Node(bytes, field.place))
-    } else {
-        Some(Word::Value(bytes, field.place))
-    }
-}
-
-// The fault of a field by its form, the k-th of a line of this kind; values apart.
-pub(crate) fn form_fault(text: &[u8], kind: LineKind, k: usize, field: Span) -> Option<Fault>
-    ensures { Least (FieldFormFault text.now kind k field) result }
-{
-    if let LineKind::Passed = kind {
-        return None;
-    }
-    match word_of(text, kind, k, field) {
-        None => Some(Fault {
-            place: field.place,
-            rule: Rule::Shape,
-        }),
-        Some(Word::Name(bytes, place) | Word::Node(bytes, place)) => {
-            if is_name(bytes) {
-                None
-            } else {
-                Some(Fault {
-                    place,
-                    rule: Rule::BadName,
-                })
-            }
+impl<'a> CutLine<'a> {
+    // What the k-th field of the line is, if a line of this kind has so many.
+    fn word(&self, k: usize, field: Span) -> Option<Word<'a>>
+        ensures { WordIs self.now.text.now self.now.kind k field result }
+    {
+        let bytes = field.of(self.text);
+        if k >= self.kind.width() {
+            None
+        } else if let LineKind::Close = self.kind {
+            Some(Word::Dot(bytes, field.place))
+        } else if k == 0 {
+            Some(Word::Name(bytes, field.place))
+        } else if k < 3 {
+            Some(Word::Node(bytes, field.place))
+        } else {
+            Some(Word::Value(bytes, field.place))
         }
-        Some(Word::Value(_, _) | Word::Dot(_, _)) => None,
+    }
+
+    // The fault of the k-th field by its form; values apart.
+    pub(crate) fn form_fault(&self, k: usize, field: Span) -> Option<Fault>
+        ensures { Least (FieldFormFault self.now.text.now self.now.kind k field) result }
+    {
+        if let LineKind::Passed = self.kind {
+            return None;
+        }
+        match self.word(k, field) {
+            None => Some(Rule::Shape.at(field.place)),
+            Some(Word::Name(bytes, place) | Word::Node(bytes, place)) if !is_name(bytes) => {
+                Some(Rule::BadName.at(place))
+            }
+            Some(_) => None,
+        }
     }
 }

@@ -30,6 +30,15 @@ pub enum Rule {
     Joined,
 }
 
+impl Rule {
+    // The rule is broken at this place.
+    pub fn at(self, place: usize) -> Fault
+        ensures { result ≡ record { place = place; rule = self } }
+    {
+        Fault { place, rule: self }
+    }
+}
+
 // A refusal in reading: the broken rule, and the place where it is broken.
 #[derive(Clone, Copy, PartialEq)]
 pub struct Fault {

@@ -10,4 +10,4 @@ returns-in-Ok c =
     enter_new c.args.text.now _ c.args.name _ _ c.as_slice.ensures.items c.of.ensures _ _ c.in_default.ensures c.in-Ok.ensures.room c.push.ensures.items (ap length c.as_slice-index.ensures.items)
 
 pub returns-in-Err : goal.returns-in-Err
-returns-in-Err c = (c.in-Err.ensures.room, no_node c.args.text.now _ c.args.name _ _ c.as_slice.ensures.items c.of.ensures c.in_default.ensures)
+returns-in-Err c = ((c.in-Err.ensures.room, no_node c.args.text.now _ c.args.name _ _ c.as_slice.ensures.items c.of.ensures c.in_default.ensures), c.at.ensures)
