@@ -8,6 +8,7 @@ use crate::divisors::gcd;
 use crate::shortening::Divisor;
 use crate::weights::Weight;
 pub use lowest::{LARGEST_NUMBER, Ratio};
+use told::{Tells, Told};
 
 /// Why two numbers make no ratio.
 #[derive(Clone, Copy, Debug, PartialEq)]
@@ -18,31 +19,16 @@ pub enum RatioRefusal {
     Large,
 }
 
-impl RatioRefusal {
-    /// The layer that refuses.
-    pub fn layer(self) -> u32
-        ensures { result ≡ (ratio_row self).layer }
-    {
-        match self {
-            RatioRefusal::Zero | RatioRefusal::Large => 2,
-        }
-    }
+impl Tells for RatioRefusal {
+    ghost says = { ratio_row };
 
-    /// The number of the reason.
-    pub fn number(self) -> u32
-        ensures { result ≡ (ratio_row self).number }
-    {
+    fn told(&self) -> Told {
         match self {
-            RatioRefusal::Zero | RatioRefusal::Large => 14,
-        }
-    }
-
-    /// The place it points at.
-    pub fn place(self) -> u32
-        ensures { result ≡ (ratio_row self).place }
-    {
-        match self {
-            RatioRefusal::Zero | RatioRefusal::Large => 0,
+            RatioRefusal::Zero | RatioRefusal::Large => Told {
+                layer: 2,
+                number: 14,
+                place: 0,
+            },
         }
     }
 }
@@ -54,6 +40,18 @@ fn scaled(p: u32, x: i32) -> i64
     ensures bound { unsigned_abs result ≤ largest_number * 2 ^ 31 }
 {
     p as i64 * x as i64
+}
+
+/// The weight over 1.
+impl From<Weight> for Ratio {
+    ghost from_gives = { λ w r. (r.num ≡ w.value) × (r.den ≡ 1) };
+
+    fn from(weight: Weight) -> Ratio {
+        Ratio {
+            num: weight.get(),
+            den: 1,
+        }
+    }
 }
 
 impl Ratio {
@@ -74,16 +72,6 @@ impl Ratio {
             num: num as u32,
             den: den as u32,
         })
-    }
-
-    /// The weight over 1.
-    pub fn whole(weight: Weight) -> Ratio
-        ensures { (result.num ≡ weight.value) × (result.den ≡ 1) }
-    {
-        Ratio {
-            num: weight.get(),
-            den: 1,
-        }
     }
 
     pub fn num(self) -> u32

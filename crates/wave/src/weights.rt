@@ -3,12 +3,13 @@ ghost use Rattle.wave.specs.Numbers.{sq, largest_weight};
 ghost use Rattle.wave.specs.Refusals.{NoWeight, weight_row};
 
 use crate::waves::Wave;
+use told::{Tells, Told};
 
 /// The largest weight of an element or a source.
 pub const LARGEST_WEIGHT: u32 = 511;
 
 /// A whole number from 1 to `LARGEST_WEIGHT`.
-#[derive(Clone, Copy)]
+#[derive(Clone, Copy, Debug, PartialEq, Eq)]
 pub struct Weight {
     value: u32,
     ghost within: { (0 < value) × (value ≤ largest_weight) },
@@ -21,31 +22,16 @@ pub enum WeightRefusal {
     Outside,
 }
 
-impl WeightRefusal {
-    /// The layer that refuses.
-    pub fn layer(self) -> u32
-        ensures { result ≡ (weight_row self).layer }
-    {
-        match self {
-            WeightRefusal::Outside => 2,
-        }
-    }
+impl Tells for WeightRefusal {
+    ghost says = { weight_row };
 
-    /// The number of the reason.
-    pub fn number(self) -> u32
-        ensures { result ≡ (weight_row self).number }
-    {
+    fn told(&self) -> Told {
         match self {
-            WeightRefusal::Outside => 12,
-        }
-    }
-
-    /// The place it points at.
-    pub fn place(self) -> u32
-        ensures { result ≡ (weight_row self).place }
-    {
-        match self {
-            WeightRefusal::Outside => 0,
+            WeightRefusal::Outside => Told {
+                layer: 2,
+                number: 12,
+                place: 0,
+            },
         }
     }
 }
