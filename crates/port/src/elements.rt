@@ -8,7 +8,7 @@ use crate::takings::Taken;
 use wave::{Ratio, Wave, Weight, WeightRefusal};
 
 /// Which element keeps the wave.
-#[derive(Clone, Copy)]
+#[derive(Clone, Copy, Debug, PartialEq, Eq)]
 pub enum StorageKind {
     /// It raises the wave that it keeps.
     Capacitor,
@@ -17,7 +17,7 @@ pub enum StorageKind {
 }
 
 /// A capacitor or a coil: keeps the wave that fell last, and its energy.
-#[derive(Clone, Copy)]
+#[derive(Clone, Copy, Debug, PartialEq, Eq)]
 pub struct Storage {
     kind: StorageKind,
     weight: Weight,
@@ -25,37 +25,23 @@ pub struct Storage {
 }
 
 /// Raises nothing, absorbs every wave, and with an ear hears it.
-#[derive(Clone, Copy)]
+#[derive(Clone, Copy, Debug, PartialEq, Eq)]
 pub struct Resistor {
     weight: Weight,
     ear: bool,
 }
 
 impl Storage {
-    /// A capacitor at rest.
-    pub fn capacitor(weight: u32) -> Result<Storage, WeightRefusal>
-        ensures { MatchResult result (λ c. AtRest StorageKind.Capacitor weight c) (λ w. NoWeight weight w) }
+    /// A capacitor or a coil at rest.
+    pub fn new(kind: StorageKind, weight: u32) -> Result<Storage, WeightRefusal>
+        ensures { MatchResult result (λ c. AtRest kind weight c) (λ w. NoWeight weight w) }
     {
         let weight = Weight::new(weight)?;
-        Ok(Storage::at_rest(StorageKind::Capacitor, weight))
-    }
-
-    /// A coil at rest.
-    pub fn coil(weight: u32) -> Result<Storage, WeightRefusal>
-        ensures { MatchResult result (λ c. AtRest StorageKind.Coil weight c) (λ w. NoWeight weight w) }
-    {
-        let weight = Weight::new(weight)?;
-        Ok(Storage::at_rest(StorageKind::Coil, weight))
-    }
-
-    fn at_rest(kind: StorageKind, weight: Weight) -> Storage
-        ensures { AtRest kind weight.value result }
-    {
-        Storage {
+        Ok(Storage {
             kind,
             weight,
             state: Wave::ZERO,
-        }
+        })
     }
 }
 
@@ -78,7 +64,7 @@ impl Port for Storage {
     ghost lawful = { storage_laws };
 
     fn ratio(&self) -> Ratio {
-        Ratio::whole(self.weight)
+        Ratio::from(self.weight)
     }
 
     fn size(&self) -> u32 {
@@ -126,7 +112,7 @@ impl Port for Resistor {
     ghost lawful = { resistor_laws };
 
     fn ratio(&self) -> Ratio {
-        Ratio::whole(self.weight)
+        Ratio::from(self.weight)
     }
 
     fn size(&self) -> u32 {
@@ -134,7 +120,7 @@ impl Port for Resistor {
     }
 
     fn ears(&self) -> u32 {
-        if self.ear { 1 } else { 0 }
+        u32::from(self.ear)
     }
 
     fn rising(&self) -> Wave {

@@ -7,7 +7,7 @@ use wave::Ratio;
 pub const LARGEST_SIZE: u32 = 32;
 
 /// What never changes of a port.
-#[derive(Clone, Copy)]
+#[derive(Clone, Copy, Debug, PartialEq, Eq)]
 pub struct Part {
     pub ratio: Ratio,
     pub size: u32,
