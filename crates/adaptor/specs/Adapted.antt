@@ -5,6 +5,7 @@ use Rattle.lemmas.proofs.Balance.{zero_of}
 use Rattle.wave.specs.Numbers.{sq, held}
 use Rattle.port.specs.Meaning.{Readings, Sound, Kept, Fall, Cleared, Laws}
 use Rattle.port.proofs.Shown.{shows_kept}
+use Rattle.port.specs.declared.meaning.Port.{Ghosts}
 use Rattle.port.specs.declared.takings.Taken.{Taken}
 use Rattle.adaptor.specs.Joints.{fits}
 use Rattle.adaptor.specs.Adaptors.{reads_at, adaptor_reads, nonzero, Passes, Idles, Takes, Empties, Clears}
@@ -61,53 +62,52 @@ module _ (j : Joint) (a b : Readings) where
   idle_cleared e h = record { dropped = h; empty = refl; keeps = record { num = refl; den = refl; size = refl; ears = refl } }
 
 -- ---- any joint, and any two ports
-module _ {P Q : Type 0} {rp : P → Readings} {tp : P → ℤ → Taken → P → Type 0} {cp : P → ℕ → P → Type 0}
-    {rq : Q → Readings} {tq : Q → ℤ → Taken → Q → Type 0} {cq : Q → ℕ → Q → Type 0} (L : Laws rp tp cp) (M : Laws rq tq cq) (j : Joint) (p : P) (q : Q) where
-  pub adaptor_sound : Sound (adaptor_reads j (rp p) (rq q))
-  adaptor_sound = by_fit (fits j (rp p) (rq q)) refl where
-    by_fit : (x : Bool) → fits j (rp p) (rq q) ≡ x → Sound (reads_at x j (rp p) (rq q))
-    by_fit true h = whole_sound j (rp p) (rq q) (L.sound p) (M.sound q) (fits_of j _ _ h)
-    by_fit false h = idle_sound j (rp p) (rq q)
+module _ {P Q : Type 0} {P+ : Ghosts P} {Q+ : Ghosts Q} (L : Laws P+.reads P+.takes P+.clears) (M : Laws Q+.reads Q+.takes Q+.clears) (j : Joint) (p : P) (q : Q) where
+  pub adaptor_sound : Sound (adaptor_reads j (P+.reads p) (Q+.reads q))
+  adaptor_sound = by_fit (fits j (P+.reads p) (Q+.reads q)) refl where
+    by_fit : (x : Bool) → fits j (P+.reads p) (Q+.reads q) ≡ x → Sound (reads_at x j (P+.reads p) (Q+.reads q))
+    by_fit true h = whole_sound j (P+.reads p) (Q+.reads q) (L.sound p) (M.sound q) (fits_of j _ _ h)
+    by_fit false h = idle_sound j (P+.reads p) (Q+.reads q)
 
-  fall_at : (x : Bool) (f : ℤ) (t : Taken) (p' : P) (q' : Q) → fits j (rp p) (rq q) ≡ x →
-      (x ≡ true → Passes rp tp cp rq tq cq j p q f t p' q') → (x ≡ false → Idles rp tp cp rq tq cq p q f t p' q') →
-      Fall (reads_at x j (rp p) (rq q)) f t (adaptor_reads j (rp p') (rq q'))
+  fall_at : (x : Bool) (f : ℤ) (t : Taken) (p' : P) (q' : Q) → fits j (P+.reads p) (Q+.reads q) ≡ x →
+      (x ≡ true → Passes P+ Q+ j p q f t p' q') → (x ≡ false → Idles P+ Q+ p q f t p' q') →
+      Fall (reads_at x j (P+.reads p) (Q+.reads q)) f t (adaptor_reads j (P+.reads p') (Q+.reads q'))
   fall_at true f t p' q' h y n =
       let d = y refl in
       let A = L.fall p _ d.x p' d.left in
       let B = M.fall q _ d.y q' d.right in
-      let R : Bool → Type 0 = λ x. Fall (reads_at true j (rp p) (rq q)) f t (reads_at x j (rp p') (rq q')) in
+      let R : Bool → Type 0 = λ x. Fall (reads_at true j (P+.reads p) (Q+.reads q)) f t (reads_at x j (P+.reads p') (Q+.reads q')) in
       subst R (sym (fits_kept j _ _ _ _ A.keeps B.keeps ∙ h))
-      (whole_fall j (rp p) (rq q) (L.sound p) (M.sound q) (fits_of j _ _ h) (rp p') (rq q') f d.x d.y t A B d.gathers)
+      (whole_fall j (P+.reads p) (Q+.reads q) (L.sound p) (M.sound q) (fits_of j _ _ h) (P+.reads p') (Q+.reads q') f d.x d.y t A B d.gathers)
   fall_at false f t p' q' h y n =
       let d = n refl in
-      let R : P → Q → Type 0 = λ u w. Fall (reads_at false j (rp p) (rq q)) f t (adaptor_reads j (rp u) (rq w)) in
-      let S : Bool → Type 0 = λ x. Fall (reads_at false j (rp p) (rq q)) f t (reads_at x j (rp p) (rq q)) in
-      subst₂ R (sym d.left) (sym d.right) (subst S (sym h) (idle_fall j (rp p) (rq q) f t d.absorbed d.shortened d.heard))
+      let R : P → Q → Type 0 = λ u w. Fall (reads_at false j (P+.reads p) (Q+.reads q)) f t (adaptor_reads j (P+.reads u) (Q+.reads w)) in
+      let S : Bool → Type 0 = λ x. Fall (reads_at false j (P+.reads p) (Q+.reads q)) f t (reads_at x j (P+.reads p) (Q+.reads q)) in
+      subst₂ R (sym d.left) (sym d.right) (subst S (sym h) (idle_fall j (P+.reads p) (Q+.reads q) f t d.absorbed d.shortened d.heard))
 
-  pub adaptor_fall : (f : ℤ) (t : Taken) (j' : Joint) (p' : P) (q' : Q) → Takes rp tp cp rq tq cq j p q f t j' p' q' →
-      Fall (adaptor_reads j (rp p) (rq q)) f t (adaptor_reads j' (rp p') (rq q'))
+  pub adaptor_fall : (f : ℤ) (t : Taken) (j' : Joint) (p' : P) (q' : Q) → Takes P+ Q+ j p q f t j' p' q' →
+      Fall (adaptor_reads j (P+.reads p) (Q+.reads q)) f t (adaptor_reads j' (P+.reads p') (Q+.reads q'))
   adaptor_fall f t j' p' q' h =
-      let R : Joint → Type 0 = λ i. Fall (adaptor_reads j (rp p) (rq q)) f t (adaptor_reads i (rp p') (rq q')) in
-      subst R (sym h.joint) (fall_at (fits j (rp p) (rq q)) f t p' q' refl h.passes h.idles)
+      let R : Joint → Type 0 = λ i. Fall (adaptor_reads j (P+.reads p) (Q+.reads q)) f t (adaptor_reads i (P+.reads p') (Q+.reads q')) in
+      subst R (sym h.joint) (fall_at (fits j (P+.reads p) (Q+.reads q)) f t p' q' refl h.passes h.idles)
 
-  cleared_at : (x : Bool) (e : ℕ) (p' : P) (q' : Q) → fits j (rp p) (rq q) ≡ x →
-      (x ≡ true → Empties rp tp cp rq tq cq p q e p' q') → (x ≡ false → (p' ≡ p) × (q' ≡ q) × (e ≡ 0)) →
-      Cleared (reads_at x j (rp p) (rq q)) e (adaptor_reads j (rp p') (rq q'))
+  cleared_at : (x : Bool) (e : ℕ) (p' : P) (q' : Q) → fits j (P+.reads p) (Q+.reads q) ≡ x →
+      (x ≡ true → Empties P+ Q+ p q e p' q') → (x ≡ false → (p' ≡ p) × (q' ≡ q) × (e ≡ 0)) →
+      Cleared (reads_at x j (P+.reads p) (Q+.reads q)) e (adaptor_reads j (P+.reads p') (Q+.reads q'))
   cleared_at true e p' q' h y n =
       let d = y refl in
       let A = L.cleared p d.x p' d.left in
       let B = M.cleared q d.y q' d.right in
-      let R : Bool → Type 0 = λ x. Cleared (reads_at true j (rp p) (rq q)) e (reads_at x j (rp p') (rq q')) in
-      subst R (sym (fits_kept j _ _ _ _ A.keeps B.keeps ∙ h)) (whole_cleared j (rp p) (rq q) (rp p') (rq q') d.x d.y e A B d.dropped)
+      let R : Bool → Type 0 = λ x. Cleared (reads_at true j (P+.reads p) (Q+.reads q)) e (reads_at x j (P+.reads p') (Q+.reads q')) in
+      subst R (sym (fits_kept j _ _ _ _ A.keeps B.keeps ∙ h)) (whole_cleared j (P+.reads p) (Q+.reads q) (P+.reads p') (Q+.reads q') d.x d.y e A B d.dropped)
   cleared_at false e p' q' h y n =
       let d = n refl in
-      let R : P → Q → Type 0 = λ u w. Cleared (reads_at false j (rp p) (rq q)) e (adaptor_reads j (rp u) (rq w)) in
-      let S : Bool → Type 0 = λ x. Cleared (reads_at false j (rp p) (rq q)) e (reads_at x j (rp p) (rq q)) in
-      subst₂ R (sym d.0) (sym d.1) (subst S (sym h) (idle_cleared j (rp p) (rq q) e d.2))
+      let R : P → Q → Type 0 = λ u w. Cleared (reads_at false j (P+.reads p) (Q+.reads q)) e (adaptor_reads j (P+.reads u) (Q+.reads w)) in
+      let S : Bool → Type 0 = λ x. Cleared (reads_at false j (P+.reads p) (Q+.reads q)) e (reads_at x j (P+.reads p) (Q+.reads q)) in
+      subst₂ R (sym d.0) (sym d.1) (subst S (sym h) (idle_cleared j (P+.reads p) (Q+.reads q) e d.2))
 
-  pub adaptor_cleared : (e : ℕ) (j' : Joint) (p' : P) (q' : Q) → Clears rp tp cp rq tq cq j p q e j' p' q' →
-      Cleared (adaptor_reads j (rp p) (rq q)) e (adaptor_reads j' (rp p') (rq q'))
+  pub adaptor_cleared : (e : ℕ) (j' : Joint) (p' : P) (q' : Q) → Clears P+ Q+ j p q e j' p' q' →
+      Cleared (adaptor_reads j (P+.reads p) (Q+.reads q)) e (adaptor_reads j' (P+.reads p') (Q+.reads q'))
   adaptor_cleared e j' p' q' h =
-      let R : Joint → Type 0 = λ i. Cleared (adaptor_reads j (rp p) (rq q)) e (adaptor_reads i (rp p') (rq q')) in
-      subst R (sym h.joint) (cleared_at (fits j (rp p) (rq q)) e p' q' refl h.empties h.idles)
+      let R : Joint → Type 0 = λ i. Cleared (adaptor_reads j (P+.reads p) (Q+.reads q)) e (adaptor_reads i (P+.reads p') (Q+.reads q')) in
+      subst R (sym h.joint) (cleared_at (fits j (P+.reads p) (Q+.reads q)) e p' q' refl h.empties h.idles)

@@ -2,6 +2,7 @@
 use Rattle.std.specs.Prelude.{◌≡◌, ℕ, zero, suc, ◌+◌, Bool, true, false, cond, ℤ, pos, negsuc}
 use Rattle.wave.specs.Numbers.{held, short}
 use Rattle.port.specs.Meaning.{Readings}
+use Rattle.port.specs.declared.meaning.Port.{Ghosts}
 use Rattle.port.specs.declared.takings.Taken.{Taken}
 use Rattle.adaptor.specs.Joints.{fits, whole, exact_left, exact_right, Gathers}
 use Rattle.adaptor.specs.declared.joints.joint.Joint.{Joint}
@@ -25,15 +26,14 @@ nonzero (pos zero) = 0
 nonzero (pos (suc n)) = 1
 nonzero (negsuc n) = 1
 
-module _ {P Q : Type 0} (rp : P → Readings) (tp : P → ℤ → Taken → P → Type 0) (cp : P → ℕ → P → Type 0)
-    (rq : Q → Readings) (tq : Q → ℤ → Taken → Q → Type 0) (cq : Q → ℕ → Q → Type 0) where
+module _ {P Q : Type 0} (P+ : Ghosts P) (Q+ : Ghosts Q) where
   -- both take their waves
   pub record Passes (j : Joint) (p : P) (q : Q) (f : ℤ) (t : Taken) (p' : P) (q' : Q) : Type 0 where
     pub x : Taken
     pub y : Taken
-    pub left : tp p (short (exact_left j (rp p).rising (rq q).rising (held f)) j.total.value) x p'
-    pub right : tq q (short (exact_right j (rp p).rising (rq q).rising (held f)) j.total.value) y q'
-    pub gathers : Gathers j (rp p) (rq q) f x y t
+    pub left : P+.takes p (short (exact_left j (P+.reads p).rising (Q+.reads q).rising (held f)) j.total.value) x p'
+    pub right : Q+.takes q (short (exact_right j (P+.reads p).rising (Q+.reads q).rising (held f)) j.total.value) y q'
+    pub gathers : Gathers j (P+.reads p) (Q+.reads q) f x y t
 
   -- nothing goes through
   pub record Idles (p : P) (q : Q) (f : ℤ) (t : Taken) (p' : P) (q' : Q) : Type 0 where
@@ -45,18 +45,18 @@ module _ {P Q : Type 0} (rp : P → Readings) (tp : P → ℤ → Taken → P �
 
   pub record Takes (j : Joint) (p : P) (q : Q) (f : ℤ) (t : Taken) (j' : Joint) (p' : P) (q' : Q) : Type 0 where
     pub joint : j' ≡ j
-    pub passes : fits j (rp p) (rq q) ≡ true → Passes j p q f t p' q'
-    pub idles : fits j (rp p) (rq q) ≡ false → Idles p q f t p' q'
+    pub passes : fits j (P+.reads p) (Q+.reads q) ≡ true → Passes j p q f t p' q'
+    pub idles : fits j (P+.reads p) (Q+.reads q) ≡ false → Idles p q f t p' q'
 
   -- both are cleared
   pub record Empties (p : P) (q : Q) (e : ℕ) (p' : P) (q' : Q) : Type 0 where
     pub x : ℕ
     pub y : ℕ
-    pub left : cp p x p'
-    pub right : cq q y q'
+    pub left : P+.clears p x p'
+    pub right : Q+.clears q y q'
     pub dropped : e ≡ x + y
 
   pub record Clears (j : Joint) (p : P) (q : Q) (e : ℕ) (j' : Joint) (p' : P) (q' : Q) : Type 0 where
     pub joint : j' ≡ j
-    pub empties : fits j (rp p) (rq q) ≡ true → Empties p q e p' q'
-    pub idles : fits j (rp p) (rq q) ≡ false → (p' ≡ p) × (q' ≡ q) × (e ≡ 0)
+    pub empties : fits j (P+.reads p) (Q+.reads q) ≡ true → Empties p q e p' q'
+    pub idles : fits j (P+.reads p) (Q+.reads q) ≡ false → (p' ≡ p) × (q' ≡ q) × (e ≡ 0)

@@ -2,6 +2,7 @@
 use Rattle.std.specs.Prelude.{◌≡◌, true, Ok, Err, Result}
 use Rattle.port.specs.Meaning.{Readings}
 use Rattle.port.specs.Parts.{shows}
+use Rattle.port.specs.declared.meaning.Port.{Ghosts}
 use Rattle.port.specs.declared.parts.fixed.Part.{Part}
 use Rattle.adaptor.specs.Joints.{Made, Refuses}
 use Rattle.adaptor.specs.declared.adaptors.Adaptor.{Adaptor}
@@ -24,6 +25,6 @@ pub record Parted (w : Way) (a b : Readings) (r : JoinRefusal) : Type 0 where
   pub right : shows y b ≡ true
   pub refused : Refuses w x y r
 
-abbrev pub Joins : {P Q : Type 0} → Way → (P → Readings) → (Q → Readings) → P → Q → Result (Adaptor P Q) (Apart P Q) → Type 0
-Joins w rp rq p q (Ok s) = (s.left ≡ p) × (s.right ≡ q) × Joined w (rp p) (rq q) s.joint
-Joins w rp rq p q (Err a) = (a.left ≡ p) × (a.right ≡ q) × Parted w (rp p) (rq q) a.refusal
+abbrev pub Joins : {P Q : Type 0} → Way → Ghosts P → Ghosts Q → P → Q → Result (Adaptor P Q) (Apart P Q) → Type 0
+Joins w P+ Q+ p q (Ok s) = (s.left ≡ p) × (s.right ≡ q) × Joined w (P+.reads p) (Q+.reads q) s.joint
+Joins w P+ Q+ p q (Err a) = (a.left ≡ p) × (a.right ≡ q) × Parted w (P+.reads p) (Q+.reads q) a.refusal

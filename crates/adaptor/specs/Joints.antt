@@ -1,8 +1,8 @@
 -- A joint: the numbers by which two parts are joined. What it is made from, when it is refused, and the readings of two ports that it joins.
 -- The shares of the parts say how a wave is divided between them.
 use Rattle.std.specs.Prelude.{◌≡◌, ℕ, ◌+◌, ◌*◌, ◌<◌, ◌≤◌, Bool, ◌&&◌, ◌⊎◌, ℤ, ◌+ℤ◌}
+use Rattle.told.specs.declared.Told.{Told}
 use Rattle.wave.specs.Numbers.{held, short, cut}
-use Rattle.wave.specs.Rows.{Row}
 use Rattle.wave.specs.Terms.{Reduced, largest_number}
 use Rattle.wave.specs.Refusals.{Past}
 use Rattle.port.specs.Meaning.{Readings, largest_size}
@@ -55,7 +55,7 @@ Refuses w a b Number = Heavy a b ⊎ Past (num_of w a b) (den_of w a b)
 Refuses w a b Size = Fair w a b × (largest_size < a.size + b.size)
 Refuses w a b Ears = Fair w a b × (a.size + b.size ≤ largest_size) × (1 < a.ears + b.ears)
 
-abbrev pub join_row : JoinRefusal → Row
+abbrev pub join_row : JoinRefusal → Told
 join_row Number = record { layer = 2; number = 14; place = 0 }
 join_row Size = record { layer = 2; number = 16; place = 0 }
 join_row Ears = record { layer = 2; number = 16; place = 0 }

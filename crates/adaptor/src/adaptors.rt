@@ -10,7 +10,7 @@ use port::{Part, Port, Taken};
 use wave::{Ratio, Wave};
 
 /// Two ports, and the joint that was made for them. A joint that does not fit its ports, which no join makes, lets nothing through.
-#[derive(Drop)]
+#[derive(Debug, Drop)]
 pub struct Adaptor<P, Q> {
     joint: Joint,
     left: P,
@@ -18,7 +18,7 @@ pub struct Adaptor<P, Q> {
 }
 
 /// Two ports that were not joined.
-#[derive(Drop)]
+#[derive(Debug, Drop)]
 pub struct Apart<P, Q> {
     pub left: P,
     pub right: Q,
@@ -31,28 +31,15 @@ fn idle(f: Wave) -> Taken
 {
     Taken {
         absorbed: 0,
-        shortened: if f.get() == 0 { 0 } else { 1 },
+        shortened: u32::from(f != Wave::ZERO),
         heard: 0,
     }
 }
 
 impl<P: Port, Q: Port> Adaptor<P, Q> {
-    /// The two in series.
-    pub fn series(left: P, right: Q) -> Result<Adaptor<P, Q>, Apart<P, Q>>
-        ensures { Joins Way.Series P.Port.reads Q.Port.reads left right result }
-    {
-        Adaptor::join(Way::Series, left, right)
-    }
-
-    /// The two in parallel.
-    pub fn parallel(left: P, right: Q) -> Result<Adaptor<P, Q>, Apart<P, Q>>
-        ensures { Joins Way.Parallel P.Port.reads Q.Port.reads left right result }
-    {
-        Adaptor::join(Way::Parallel, left, right)
-    }
-
-    fn join(way: Way, left: P, right: Q) -> Result<Adaptor<P, Q>, Apart<P, Q>>
-        ensures { Joins way P.Port.reads Q.Port.reads left right result }
+    /// The two in series or in parallel.
+    pub fn new(way: Way, left: P, right: Q) -> Result<Adaptor<P, Q>, Apart<P, Q>>
+        ensures { Joins way P.Port Q.Port left right result }
     {
         match Joint::new(way, Part::of(&left), Part::of(&right)) {
             Ok(joint) => Ok(Adaptor { joint, left, right }),
@@ -74,9 +61,9 @@ impl<P: Port, Q: Port> Adaptor<P, Q> {
 impl<P: Port, Q: Port> Port for Adaptor<P, Q> {
     ghost reads = { λ s. adaptor_reads s.joint (P.Port.reads s.left) (Q.Port.reads s.right) };
 
-    ghost takes = { λ s f t z. Takes P.Port.reads P.Port.takes P.Port.clears Q.Port.reads Q.Port.takes Q.Port.clears s.joint s.left s.right f t z.joint z.left z.right };
+    ghost takes = { λ s f t z. Takes P.Port Q.Port s.joint s.left s.right f t z.joint z.left z.right };
 
-    ghost clears = { λ s e z. Clears P.Port.reads P.Port.takes P.Port.clears Q.Port.reads Q.Port.takes Q.Port.clears s.joint s.left s.right e z.joint z.left z.right };
+    ghost clears = { λ s e z. Clears P.Port Q.Port s.joint s.left s.right e z.joint z.left z.right };
 
     ghost lawful = { let L = P.Port.lawful in
         let M = Q.Port.lawful in

@@ -1,16 +1,18 @@
 mod joint;
 
-ghost use Rattle.std.specs.Prelude.{◌≡◌, ◌+◌, ◌*◌, ◌^◌, ◌<◌, ◌≤◌, ◌+ℤ◌, ◌-ℤ◌, MatchResult, unsigned_abs};
+ghost use Rattle.std.specs.Prelude.{◌≡◌, ◌+◌, ◌*◌, ◌^◌, ◌<◌, ◌≤◌, ◌+ℤ◌, ◌-ℤ◌, cond, MatchResult, unsigned_abs};
 ghost use Rattle.wave.specs.Numbers.{largest_wave};
 ghost use Rattle.wave.specs.Shortenings.{Shortens};
 ghost use Rattle.wave.specs.Terms.{Reduced, largest_number};
 ghost use Rattle.wave.specs.Refusals.{Past};
 ghost use Rattle.adaptor.specs.Ways.{whole_num, whole_den};
 ghost use Rattle.adaptor.specs.Joints.{Made, Refuses, join_row, fits, rising_exact, rising_over, exact_left, exact_right};
+ghost use Rattle.adaptor.specs.declared.joints.JoinRefusal.TheVariants.{Number};
 
 use crate::ways::Way;
 pub use joint::Joint;
 use port::{LARGEST_SIZE, Part, Port, Taken};
+use told::{Tells, Told};
 use wave::{Divisor, LARGEST_NUMBER, Ratio, RatioRefusal, Shortened, Wave, shorten};
 
 /// Why two parts are not joined.
@@ -24,33 +26,27 @@ pub enum JoinRefusal {
     Ears,
 }
 
-impl JoinRefusal {
-    /// The layer that refuses.
-    pub fn layer(self) -> u32
-        ensures { result ≡ (join_row self).layer }
-    {
-        match self {
-            JoinRefusal::Number | JoinRefusal::Size | JoinRefusal::Ears => 2,
-        }
-    }
+impl Tells for JoinRefusal {
+    ghost says = { join_row };
 
-    /// The number of the reason.
-    pub fn number(self) -> u32
-        ensures { result ≡ (join_row self).number }
-    {
-        match self {
+    fn told(&self) -> Told {
+        let number = match self {
             JoinRefusal::Number => 14,
             JoinRefusal::Size | JoinRefusal::Ears => 16,
+        };
+        Told {
+            layer: 2,
+            number,
+            place: 0,
         }
     }
+}
 
-    /// The place it points at.
-    pub fn place(self) -> u32
-        ensures { result ≡ (join_row self).place }
-    {
-        match self {
-            JoinRefusal::Number | JoinRefusal::Size | JoinRefusal::Ears => 0,
-        }
+impl From<RatioRefusal> for JoinRefusal {
+    ghost from_gives = { λ _ r. r ≡ Number };
+
+    fn from(_: RatioRefusal) -> JoinRefusal {
+        JoinRefusal::Number
     }
 }
 
@@ -107,7 +103,7 @@ fn both(r: Wave, t: Wave) -> i64
 }
 
 /// The three waves of a round, shortened: what rises from the whole, and what falls to the left and to the right.
-#[derive(Clone, Copy)]
+#[derive(Clone, Copy, Debug, PartialEq, Eq)]
 pub struct Round {
     pub up: Shortened,
     pub left: Shortened,
@@ -117,15 +113,15 @@ pub struct Round {
 impl Round {
     /// How many of the three were cut.
     fn cuts(&self) -> u32
-        ensures { result ≡ self.now.up.cut + self.now.left.cut + self.now.right.cut }
+        ensures { result ≡ cond self.now.up.cut 1 0 + cond self.now.left.cut 1 0 + cond self.now.right.cut 1 0 }
     {
-        self.up.cut + self.left.cut + self.right.cut
+        u32::from(self.up.cut) + u32::from(self.left.cut) + u32::from(self.right.cut)
     }
 
     /// What the two and the round come to. Of two ports no sum is past its type, so none stops at the end.
     pub fn gathered(&self, x: Taken, y: Taken) -> Taken
         ensures absorbed { x.absorbed + y.absorbed < 2 ^ 64 → result.absorbed ≡ x.absorbed + y.absorbed }
-        ensures shortened { x.shortened + y.shortened < 2 ^ 31 → result.shortened ≡ x.shortened + y.shortened + (self.now.up.cut + self.now.left.cut + self.now.right.cut) }
+        ensures shortened { x.shortened + y.shortened < 2 ^ 31 → result.shortened ≡ x.shortened + y.shortened + (cond self.now.up.cut 1 0 + cond self.now.left.cut 1 0 + cond self.now.right.cut 1 0) }
         ensures heard { unsigned_abs x.heard ≤ largest_wave → unsigned_abs y.heard ≤ largest_wave → result.heard ≡ x.heard +ℤ y.heard }
     {
         Taken {
@@ -143,18 +139,12 @@ impl Joint {
     pub fn new(way: Way, left: Part, right: Part) -> Result<Joint, JoinRefusal>
         ensures { MatchResult result (λ j. Made way left right j) (λ w. Refuses way left right w) }
     {
-        let shares = match shares_of(left.ratio, right.ratio) {
-            Ok(shares) => shares,
-            Err(_) => return Err(JoinRefusal::Number),
-        };
+        let shares = shares_of(left.ratio, right.ratio)?;
         let total = shares.sum(1);
         if total.get() > LARGEST_NUMBER {
             return Err(JoinRefusal::Number);
         }
-        let ratio = match whole_of(way, left.ratio, right.ratio) {
-            Ok(ratio) => ratio,
-            Err(_) => return Err(JoinRefusal::Number),
-        };
+        let ratio = whole_of(way, left.ratio, right.ratio)?;
         if left.size + right.size > LARGEST_SIZE {
             return Err(JoinRefusal::Size);
         }
@@ -181,8 +171,7 @@ impl Joint {
     pub fn way(&self) -> Way
         ensures { result ≡ self.now.way }
     {
-        let way = self.way;
-        way
+        self.way
     }
 
     pub fn ratio(&self) -> Ratio

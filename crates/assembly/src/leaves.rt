@@ -8,7 +8,7 @@ ghost use Rattle.assembly.specs.Inner.{Fit, LeafIs};
 use crate::branches::Branch;
 use names::find;
 use net::Wire;
-use port::{Resistor, Storage};
+use port::{Resistor, Storage, StorageKind};
 use reader::Element;
 use tree::{Body, Element as Leaf, ListingTree};
 use values::Kind;
@@ -36,11 +36,11 @@ fn body_of(kind: Kind, weight: u32, ear: bool) -> Result<Body, WeightRefusal>
             Ok(resistor) => Ok(Body::Resist(resistor)),
             Err(refusal) => Err(refusal),
         },
-        Kind::Capacitor => match Storage::capacitor(weight) {
+        Kind::Capacitor => match Storage::new(StorageKind::Capacitor, weight) {
             Ok(storage) => Ok(Body::Store(storage)),
             Err(refusal) => Err(refusal),
         },
-        Kind::Coil => match Storage::coil(weight) {
+        Kind::Coil => match Storage::new(StorageKind::Coil, weight) {
             Ok(storage) => Ok(Body::Store(storage)),
             Err(refusal) => Err(refusal),
         },

@@ -3,7 +3,7 @@
 #![tactic(auto)]
 
 use adaptor::Way;
-use port::{Port, Resistor, Storage};
+use port::{Port, Resistor, Storage, StorageKind};
 use std::time::Instant;
 use std::{env, io};
 use tree::{Body, Element, ListingTree, Room};
@@ -39,8 +39,8 @@ fn join(
 
 // A coil of 31 in series with a capacitor of 320 and a resistor of 166, which hears, in parallel.
 fn door(room: &mut Room) -> Option<ListingTree> {
-    let coil = storage(0, Storage::coil(31).ok());
-    let capacitor = storage(1, Storage::capacitor(320).ok());
+    let coil = storage(0, Storage::new(StorageKind::Coil, 31).ok());
+    let capacitor = storage(1, Storage::new(StorageKind::Capacitor, 320).ok());
     let resistor = Some(ListingTree::leaf(Element {
         index: 2,
         body: Body::Resist(Resistor::new(166, true).ok()?),
@@ -51,9 +51,9 @@ fn door(room: &mut Room) -> Option<ListingTree> {
 
 // 32 capacitors of 320 in parallel, joined one after the other.
 fn capacitors(room: &mut Room) -> Option<ListingTree> {
-    let mut all = storage(0, Storage::capacitor(320).ok());
+    let mut all = storage(0, Storage::new(StorageKind::Capacitor, 320).ok());
     for index in 1..32u32 {
-        let next = storage(index, Storage::capacitor(320).ok());
+        let next = storage(index, Storage::new(StorageKind::Capacitor, 320).ok());
         all = join(Way::Parallel, all, next, room);
     }
     all

@@ -8,67 +8,65 @@ mod tests {
     use crate::wide::Wide;
     use adaptor::{Adaptor, Apart, JoinRefusal, Joint, Way};
     use closing::Source;
-    use port::{LARGEST_SIZE, Part, Port, Resistor, Storage};
+    use port::{LARGEST_SIZE, Part, Port, Resistor, Storage, StorageKind};
     use std::process::Abort;
     use std::test::Fail;
-    use wave::{Ratio, RatioRefusal, Weight, WeightRefusal};
+    use told::{Tells, Told};
+    use wave::{Ratio, Weight, WeightRefusal};
 
     fn is_weight(rt: &impl Abort, value: u32) -> Result<(), Fail> {
-        match Weight::new(value) {
-            Ok(weight) => {
-                assert_eq!(rt; weight.get(), value);
-                Ok(())
-            }
-            Err(refusal) => Err(Fail::from(refusal)),
+        let weight = Weight::new(value)?;
+        assert_eq!(rt; weight.get(), value);
+        Ok(())
+    }
+
+    fn told(layer: u32, number: u32) -> Told {
+        Told {
+            layer,
+            number,
+            place: 0,
         }
     }
 
-    fn told(refusal: WeightRefusal) -> bool {
-        refusal.layer() == 2 && refusal.number() == 12 && refusal.place() == 0
-    }
-
-    fn no_weight(value: u32) -> bool {
+    fn no_weight(rt: &impl Abort, value: u32) -> Result<(), Fail> {
         match (
-            Storage::capacitor(value),
-            Storage::coil(value),
+            Storage::new(StorageKind::Capacitor, value),
+            Storage::new(StorageKind::Coil, value),
             Resistor::new(value, true),
             Source::new(value),
         ) {
-            (Err(a), Err(b), Err(c), Err(d)) => told(a) && told(b) && told(c) && told(d),
-            _ => false,
+            (Err(a), Err(b), Err(c), Err(d)) => {
+                assert_eq!(rt; a.told(), told(2, 12));
+                assert_eq!(rt; b.told(), told(2, 12));
+                assert_eq!(rt; c.told(), told(2, 12));
+                assert_eq!(rt; d.told(), told(2, 12));
+                Ok(())
+            }
+            _ => Err(Fail::new("weight")),
         }
     }
 
     #[test]
     fn weights(rt: HostRuntime) -> Result<(), Fail> {
-        assert!(rt; no_weight(0));
+        no_weight(&rt, 0)?;
         is_weight(&rt, 1)?;
         is_weight(&rt, 511)?;
-        assert!(rt; no_weight(512));
-        Ok(())
+        no_weight(&rt, 512)
     }
 
     fn reduces(rt: &impl Abort, a: u64, b: u64, num: u32, den: u32) -> Result<(), Fail> {
-        match Ratio::new(a, b) {
-            Ok(ratio) => {
-                assert_eq!(rt; ratio.num(), num);
-                assert_eq!(rt; ratio.den(), den);
-                Ok(())
-            }
-            Err(_) => Err(Fail::new("refused")),
-        }
+        let ratio = Ratio::new(a, b)?;
+        assert_eq!(rt; ratio.num(), num);
+        assert_eq!(rt; ratio.den(), den);
+        Ok(())
     }
 
     fn no_ratio(rt: &impl Abort, a: u64, b: u64) -> Result<(), Fail> {
-        match Ratio::new(a, b) {
-            Ok(_) => Err(Fail::new("ratio")),
-            Err(refusal) => {
-                assert_eq!(rt; refusal.layer(), 2);
-                assert_eq!(rt; refusal.number(), 14);
-                assert_eq!(rt; refusal.place(), 0);
-                Ok(())
-            }
-        }
+        let Err(refusal) = Ratio::new(a, b) else {
+            return Err(Fail::new("ratio"));
+        };
+        assert_eq!(rt; refusal.told(), told(2, 14));
+        Ok(())
     }
 
     #[test]
@@ -83,9 +81,7 @@ mod tests {
     }
 
     fn part(num: u64, den: u64, size: u32, ears: u32) -> Result<Part, Fail> {
-        let Ok(ratio) = Ratio::new(num, den) else {
-            return Err(Fail::new("ratio"));
-        };
+        let ratio = Ratio::new(num, den)?;
         if size == 0 || size > LARGEST_SIZE || ears > 1 {
             return Err(Fail::new("part"));
         }
@@ -99,13 +95,11 @@ mod tests {
         right: Part,
         want: JoinRefusal,
     ) -> Result<(), Fail> {
-        match Joint::new(way, left, right) {
-            Ok(_) => Err(Fail::new("joined")),
-            Err(refusal) => {
-                assert_eq!(rt; refusal, want);
-                Ok(())
-            }
-        }
+        let Err(refusal) = Joint::new(way, left, right) else {
+            return Err(Fail::new("joined"));
+        };
+        assert_eq!(rt; refusal, want);
+        Ok(())
     }
 
     // The ratio alone is too large, the total of the shares alone, the sizes, the ears; and each of them before what comes after it.
@@ -135,26 +129,13 @@ mod tests {
 
     #[test]
     fn join_numbers(rt: HostRuntime) {
-        assert_eq!(rt; JoinRefusal::Number.number(), 14);
-        assert_eq!(rt; JoinRefusal::Size.number(), 16);
-        assert_eq!(rt; JoinRefusal::Ears.number(), 16);
-        assert_eq!(rt; JoinRefusal::Ears.layer(), 2);
-        assert_eq!(rt; JoinRefusal::Ears.place(), 0);
+        assert_eq!(rt; JoinRefusal::Number.told(), told(2, 14));
+        assert_eq!(rt; JoinRefusal::Size.told(), told(2, 16));
+        assert_eq!(rt; JoinRefusal::Ears.told(), told(2, 16));
     }
 
-    fn one(ear: bool) -> Result<Resistor, Fail> {
-        match Resistor::new(1, ear) {
-            Ok(resistor) => Ok(resistor),
-            Err(_) => Err(Fail::new("refused")),
-        }
-    }
-
-    // Two ports in parallel.
-    fn beside<P: Port + Drop, Q: Port + Drop>(left: P, right: Q) -> Result<Adaptor<P, Q>, Fail> {
-        match Adaptor::parallel(left, right) {
-            Ok(both) => Ok(both),
-            Err(_) => Err(Fail::new("not joined")),
-        }
+    fn one(ear: bool) -> Result<Resistor, WeightRefusal> {
+        Resistor::new(1, ear)
     }
 
     // Two ports that are not joined come back as they were.
@@ -165,15 +146,13 @@ mod tests {
         right: u32,
         want: JoinRefusal,
     ) -> Result<(), Fail> {
-        match made {
-            Ok(_) => Err(Fail::new("joined")),
-            Err(apart) => {
-                assert_eq!(rt; apart.left.size(), left);
-                assert_eq!(rt; apart.right.size(), right);
-                assert_eq!(rt; apart.refusal, want);
-                Ok(())
-            }
-        }
+        let Err(apart) = made else {
+            return Err(Fail::new("joined"));
+        };
+        assert_eq!(rt; apart.left.size(), left);
+        assert_eq!(rt; apart.right.size(), right);
+        assert_eq!(rt; apart.refusal, want);
+        Ok(())
     }
 
     #[test]
@@ -181,12 +160,18 @@ mod tests {
         let wide = Wide {
             resistor: one(true)?,
         };
-        let two = beside(one(true)?, one(false)?)?;
-        parted(&rt, Adaptor::series(two, wide), 2, 32, JoinRefusal::Size)?;
-        let two = beside(one(false)?, one(true)?)?;
+        let two = Adaptor::new(Way::Parallel, one(true)?, one(false)?)?;
         parted(
             &rt,
-            Adaptor::parallel(two, one(true)?),
+            Adaptor::new(Way::Series, two, wide),
+            2,
+            32,
+            JoinRefusal::Size,
+        )?;
+        let two = Adaptor::new(Way::Parallel, one(false)?, one(true)?)?;
+        parted(
+            &rt,
+            Adaptor::new(Way::Parallel, two, one(true)?),
             2,
             1,
             JoinRefusal::Ears,

@@ -65,14 +65,14 @@ fn other_wave<C: Closing>(rig: &mut Rig<Resistor, C>, wave: OpenWave, f: i32) ->
 #[cfg(test)]
 mod tests {
     use super::*;
-    use adaptor::Adaptor;
+    use adaptor::{Adaptor, Way};
     use closing::{Diode, Short, Source, Stiff};
-    use port::Storage;
+    use port::{Storage, StorageKind};
     use rig::PAGE_LENGTH;
     use std::test::Fail;
 
     fn capacitor(weight: u32) -> Result<Storage, Fail> {
-        match Storage::capacitor(weight) {
+        match Storage::new(StorageKind::Capacitor, weight) {
             Ok(x) => Ok(x),
             Err(_) => Err(Fail::new("no weight")),
         }
@@ -173,16 +173,16 @@ mod tests {
     }
 
     fn door_line() -> Result<Adaptor<Storage, Adaptor<Storage, Resistor>>, Fail> {
-        let Ok(coil) = Storage::coil(31) else {
+        let Ok(coil) = Storage::new(StorageKind::Coil, 31) else {
             return Err(Fail::new("coil"));
         };
         let Ok(listener) = Resistor::new(166, true) else {
             return Err(Fail::new("listener"));
         };
-        let Ok(shunt) = Adaptor::parallel(capacitor(320)?, listener) else {
+        let Ok(shunt) = Adaptor::new(Way::Parallel, capacitor(320)?, listener) else {
             return Err(Fail::new("parallel"));
         };
-        match Adaptor::series(coil, shunt) {
+        match Adaptor::new(Way::Series, coil, shunt) {
             Ok(line) => Ok(line),
             Err(_) => Err(Fail::new("series")),
         }

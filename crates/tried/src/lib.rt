@@ -3,9 +3,9 @@
 
 #[cfg(test)]
 mod tests {
-    use adaptor::{Adaptor, Apart};
+    use adaptor::{Adaptor, Way};
     use closing::{BoundedClosing, Closing, Diode, Short, Source, Stiff};
-    use port::{Port, Resistor, Storage};
+    use port::{Port, Resistor, Storage, StorageKind};
     use std::process::Abort;
     use std::test::Fail;
     use wave::{Ratio, WeightRefusal};
@@ -35,39 +35,19 @@ mod tests {
         assert_eq!(rt; port.ears(), ears);
     }
 
-    fn weighed<T: Drop>(made: Result<T, WeightRefusal>) -> Result<T, Fail> {
-        match made {
-            Ok(x) => Ok(x),
-            Err(_) => Err(Fail::new("refused")),
-        }
+    fn capacitor(weight: u32) -> Result<Storage, WeightRefusal> {
+        Storage::new(StorageKind::Capacitor, weight)
     }
 
-    fn joined<P: Port + Drop, Q: Port + Drop>(
-        made: Result<Adaptor<P, Q>, Apart<P, Q>>,
-    ) -> Result<Adaptor<P, Q>, Fail> {
-        match made {
-            Ok(x) => Ok(x),
-            Err(_) => Err(Fail::new("not joined")),
-        }
-    }
-
-    fn capacitor(weight: u32) -> Result<Storage, Fail> {
-        weighed(Storage::capacitor(weight))
-    }
-
-    fn coil(weight: u32) -> Result<Storage, Fail> {
-        weighed(Storage::coil(weight))
-    }
-
-    fn resistor(weight: u32, ear: bool) -> Result<Resistor, Fail> {
-        weighed(Resistor::new(weight, ear))
+    fn coil(weight: u32) -> Result<Storage, WeightRefusal> {
+        Storage::new(StorageKind::Coil, weight)
     }
 
     #[test]
     fn door_line(rt: HostRuntime) -> Result<(), Fail> {
-        let shunt = joined(Adaptor::parallel(capacitor(320)?, resistor(166, true)?))?;
-        let mut line = joined(Adaptor::series(coil(31)?, shunt))?;
-        let source = weighed(Source::new(166))?;
+        let shunt = Adaptor::new(Way::Parallel, capacitor(320)?, Resistor::new(166, true)?)?;
+        let mut line = Adaptor::new(Way::Series, coil(31)?, shunt)?;
+        let source = Source::new(166)?;
         shows(&rt, &line, 15066, 517, 3, 1);
         round(
             &rt,
@@ -97,12 +77,12 @@ mod tests {
 
     #[test]
     fn joints_within_joints(rt: HostRuntime) -> Result<(), Fail> {
-        let ring = joined(Adaptor::series(capacitor(5)?, coil(7)?))?;
-        let left = joined(Adaptor::parallel(ring, resistor(11, true)?))?;
-        let branch = joined(Adaptor::series(resistor(13, false)?, coil(2)?))?;
-        let right = joined(Adaptor::parallel(capacitor(3)?, branch))?;
-        let mut net = joined(Adaptor::series(left, right))?;
-        let source = weighed(Source::new(9))?;
+        let ring = Adaptor::new(Way::Series, capacitor(5)?, coil(7)?)?;
+        let left = Adaptor::new(Way::Parallel, ring, Resistor::new(11, true)?)?;
+        let branch = Adaptor::new(Way::Series, Resistor::new(13, false)?, coil(2)?)?;
+        let right = Adaptor::new(Way::Parallel, capacitor(3)?, branch)?;
+        let mut net = Adaptor::new(Way::Series, left, right)?;
+        let source = Source::new(9)?;
         shows(&rt, &net, 11857, 3357, 6, 1);
         round(
             &rt,
@@ -147,10 +127,8 @@ mod tests {
 
     // What the four closings answer and the three bounded ones offer.
     fn asked(rt: &impl Abort, r: i32, e: i32, falling: [i32; 4], offer: u64) -> Result<(), Fail> {
-        let source = weighed(Source::new(166))?;
-        let Ok(ratio) = Ratio::new(15066, 517) else {
-            return Err(Fail::new("ratio"));
-        };
+        let source = Source::new(166)?;
+        let ratio = Ratio::new(15066, 517)?;
         assert_eq!(rt; source.answer(r, e, ratio).get(), falling[0]);
         assert_eq!(rt; Short.answer(r, e, ratio).get(), falling[1]);
         assert_eq!(rt; Diode.answer(r, e, ratio).get(), falling[2]);

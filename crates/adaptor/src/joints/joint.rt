@@ -8,7 +8,7 @@ use port::Part;
 use wave::{Divisor, Ratio};
 
 /// The numbers of two joined parts: their ratio as a whole, and the shares of the two, which add up to the total.
-#[derive(Clone, Copy)]
+#[derive(Clone, Copy, Debug, PartialEq, Eq)]
 pub struct Joint {
     pub(super) way: Way,
     pub(super) left: Part,
