@@ -2,55 +2,67 @@
 #![tactic(auto)]
 
 use cut::Span;
-use reader::{Ends, Listing, NodeNumber, read};
+use reader::{Listing, NodeNumber, read};
 use std::alloc::{AllocError, Global};
 use std::{env, fs, io};
 
-// A name as the text has it.
-fn name_of(heap: Global, text: &[u8], name: Span) -> Result<String, AllocError> {
-    String::from_utf8_lossy(heap, name.of(text))
-}
-
-fn node_of(
+// A listing beside the text that it was read from.
+#[derive(Clone, Copy)]
+struct Sheet<'a> {
     heap: Global,
-    text: &[u8],
-    listing: &Listing,
-    number: NodeNumber,
-) -> Result<String, AllocError> {
-    match listing.nodes.as_slice().get(number.index) {
-        Some(node) => name_of(heap, text, node.name),
-        None => Ok(String::new(heap)),
-    }
+    text: &'a [u8],
+    listing: &'a Listing,
 }
 
-fn print_listing(rt: &HostRuntime, text: &[u8], listing: &Listing) -> io::Result<()> {
-    let heap = rt.alloc();
-    let port = listing.port;
-    let name = name_of(heap, text, port.name)?;
-    let from = node_of(heap, text, listing, port.ends.from)?;
-    let to = node_of(heap, text, listing, port.ends.to)?;
-    println!(rt; "port {name} {from} {to}")?;
-    for element in listing.elements.as_slice() {
-        let kind = element.kind.word();
-        let name = name_of(heap, text, element.name)?;
-        let from = node_of(heap, text, listing, element.ends.from)?;
-        let to = node_of(heap, text, listing, element.ends.to)?;
-        let value = element.value.get();
-        let unit = element.kind.unit();
-        println!(rt; "{kind} {name} {from} {to} {value} {unit}")?;
+impl Sheet<'_> {
+    // A name as the text has it.
+    fn name(&self, name: Span) -> Result<String, AllocError> {
+        String::from_utf8_lossy(self.heap, name.of(self.text))
     }
-    Ok(())
+
+    fn node(&self, number: NodeNumber) -> Result<String, AllocError> {
+        match self.listing.nodes.as_slice().get(number.index) {
+            Some(node) => self.name(node.name),
+            None => Ok(String::new(self.heap)),
+        }
+    }
+
+    fn print(&self, rt: &HostRuntime) -> io::Result<()> {
+        let port = self.listing.port;
+        let name = self.name(port.name)?;
+        let from = self.node(port.ends.from)?;
+        let to = self.node(port.ends.to)?;
+        println!(rt; "port {name} {from} {to}")?;
+        for element in self.listing.elements.as_slice() {
+            let kind = element.kind.word();
+            let name = self.name(element.name)?;
+            let from = self.node(element.ends.from)?;
+            let to = self.node(element.ends.to)?;
+            let value = element.value.get();
+            let unit = element.kind.unit();
+            println!(rt; "{kind} {name} {from} {to} {value} {unit}")?;
+        }
+        Ok(())
+    }
 }
 
 fn main(rt: HostRuntime) -> io::Result<()> {
-    let mut path = format!(in rt.alloc(); "line.cir")?;
-    for word in env::args(&rt)?.skip(1) {
-        path = word;
-    }
+    let heap = rt.alloc();
+    let path = match env::args(&rt)?.skip(1).last() {
+        Some(path) => path,
+        None => format!(in heap; "line.cir")?,
+    };
     // a file that cannot be read is empty text
-    let text = fs::read(&rt, path.as_str()).unwrap_or(Vec::new(rt.alloc()));
+    let text = fs::read(&rt, path.as_str()).unwrap_or(Vec::new(heap));
     match read(text.as_slice()) {
-        Ok(listing) => print_listing(&rt, text.as_slice(), &listing),
+        Ok(listing) => {
+            let sheet = Sheet {
+                heap,
+                text: text.as_slice(),
+                listing: &listing,
+            };
+            sheet.print(&rt)
+        }
         Err(fault) => {
             let layer = fault.layer();
             let number = fault.number();
