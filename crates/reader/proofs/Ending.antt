@@ -1,5 +1,5 @@
 -- When all lines are read.
-use Rattle.std.proofs.Common.{◌≡◌, ℕ, ◌+◌, ◌-◌, ◌<◌, ◌≤◌, true, false, ◌⊎◌, List, length, Some, None, refl, ap, ◌∙◌, subst, inl, inr, ⊎_elim, arith}
+use Rattle.std.proofs.Common.{◌≡◌, ℕ, ◌+◌, ◌-◌, ◌<◌, ◌≤◌, min, true, false, ◌⊎◌, List, length, Some, None, refl, ap, ◌∙◌, subst, inl, inr, ⊎_elim, arith}
 use Rattle.std.proofs.lemmas.Bool.{cases_order}
 use Rattle.cut.specs.Cuts.{LineTo, FirstFields}
 use Rattle.cut.specs.declared.Span.{Span}
@@ -75,10 +75,12 @@ module _ {t : List ℕ} {q : ℕ} {so : Reading} (h : Sofar t q so) (on : q < le
   kind_is : kd ≡ standing q so.closed (kind_of_line t cut.0)
   kind_is = is ∙ ap (standing q so.closed) (kind_few t q (q + (b - q)) few cut.0 cut.1 cut.2)
 
-  pub line_taken : (y : Reading) (q' : ℕ) → NextStart t b q' → Least (ReaderFault t q (q + (b - q)) cut.0 kd so) None × Taken t cut.0 kd so y → (q < q') × Sofar t q' y
+  pub line_taken : (y : Reading) (q' : ℕ) → q' ≡ min (b + 1) (length t) → Least (ReaderFault t q (q + (b - q)) cut.0 kd so) None × Taken t cut.0 kd so y → (q < q') × Sofar t q' y
   line_taken y q' next x =
       let w = subst (λ k. Least (ReaderFault t q (q + (b - q)) cut.0 k so) None × Taken t cut.0 k so y) kind_is x in
-      let next' = subst (λ n. NextStart t n q') stop_is next in
+      let low = ends.low in
+      let high = ends.high in
+      let next' : NextStart t (q + (b - q)) q' = (λ l. omega arith, λ l. omega arith) in
       ((onward h on (q + (b - q)) cut.0 ends' cut.1 w.0 q' next').0, step h on (q + (b - q)) cut.0 ends' cut.1 w.0 q' next' y w.1)
 
   pub line_fails : (f : Fault) → Least (ReaderFault t q (q + (b - q)) cut.0 kd so) (Some f) → Least (FaultAt t) (Some f)

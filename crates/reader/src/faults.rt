@@ -14,6 +14,7 @@ use names::find;
 use refusals::{Fault, Rule, sooner};
 use values::{Value, Wrong, value_of};
 
+// Kept: not `From`, since both types are of crates below.
 fn rule_of(wrong: Wrong) -> Rule
     ensures { result ≡ rule_for wrong }
 {

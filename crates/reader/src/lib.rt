@@ -41,6 +41,7 @@ pub struct Node {
     pub name: Span,
 }
 
+// Kept: nodes are named by index, since reading uses no heap and many ends meet at one node.
 // Which node of a listing: its index in the list of nodes, from 0 in the order of first appearance.
 #[derive(Clone, Copy, PartialEq)]
 pub struct NodeNumber {

@@ -3,7 +3,7 @@ ghost use Rattle.std.specs.Prelude.{◌≡◌, ℕ, ◌+◌, ◌-◌, ◌<◌, �
 ghost use Rattle.cut.specs.declared.Span.{Span as SpanIs};
 ghost use Rattle.refusals.specs.Order.{Least};
 ghost use Rattle.reader.specs.Limits.{largest_text};
-ghost use Rattle.reader.specs.Inner.{NextStart, CutInto, FaultOf, Taken, Sofar};
+ghost use Rattle.reader.specs.Inner.{CutInto, FaultOf, Taken, Sofar};
 ghost use Rattle.reader.specs.Answers.{Reads, Refuses, Only};
 
 use crate::line::CutLine;
@@ -21,13 +21,6 @@ use values::{Kind, LEAST_VALUE};
 const NOWHERE: Span = Span { place: 0, len: 0 };
 
 const FIRST: NodeNumber = NodeNumber { index: 0 };
-
-fn next_start(text: &[u8], end: usize) -> usize
-    requires { end ≤ length text.now }
-    ensures { NextStart text.now end result }
-{
-    if end < text.len() { end + 1 } else { end }
-}
 
 // What the lines so far hold.
 #[derive(Drop)]
@@ -118,7 +111,7 @@ impl Reading {
             fields,
             kind,
         })?;
-        Ok(next_start(text, end))
+        Ok((end + 1).min(text.len()))
     }
 
     // The records, when all lines are read.
@@ -159,6 +152,7 @@ pub fn read(text: &[u8]) -> Result<Listing, Fault>
     }
     let mut reading = Reading::new();
     let mut start = 0;
+    // Kept: an iterator over the lines would carry the same place from turn to turn.
     while start < text.len() {
         start = reading.read_line(text, start)?;
     }

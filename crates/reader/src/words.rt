@@ -69,6 +69,7 @@ fn is_closing(word: &[u8]) -> bool
 }
 
 // The kind of a line by its fields.
+// Kept: the project's rule takes fields apart by slice patterns and chooses the kind by `if let`.
 pub(crate) fn line_kind(text: &[u8], fields: &[Span]) -> LineKind
     ensures { result ≡ kind_of_line text.now fields.now }
 {
@@ -112,6 +113,7 @@ fn is_name(word: &[u8]) -> bool
 }
 
 // A word of a line: its bytes, and its place in the text.
+// Kept: the project's rule has the words of a listing as an enum that borrows the text.
 #[derive(Clone, Copy)]
 pub enum Word<'a> {
     Name(&'a [u8], usize),

@@ -28,4 +28,4 @@ pub returns : goal.returns
 returns c =
     let here = (goal.at.returns c).After-take in
     let cut = cutting here in
-    line_taken c.requires.before c.requires.inside c.requires.small _ _ _ (c.line_end-end.ensures.within (omega arith)) cut (stands here) _ _ c.next_start.ensures (c.in_ok-take.ensures cut.0 (cut.1, cut.2))
+    line_taken c.requires.before c.requires.inside c.requires.small _ _ _ (c.line_end-end.ensures.within (omega arith)) cut (stands here) _ _ c.min.ensures (c.in_ok-take.ensures cut.0 (cut.1, cut.2))
