@@ -1,4 +1,3 @@
-pub mod Wording
 pub mod Parts
 pub mod Entering
 pub mod Few

@@ -43,9 +43,6 @@ port_once t ns l x y a b =
     let o = number_once t ns (nth l.fields 2) x.ends.to.index y.ends.to.index a.to b.to in
     λ i. record { name = n i; ends = record { from = record { index = f i }; to = record { index = o i } } }
 
-first_item : (p p' : PortRecord) → p ∷ [] ≡ p' ∷ [] → p ≡ p'
-first_item p p' e = ap (λ l. get_or l 0 p) e
-
 -- the rule with a number
 abbrev rule_at : ℕ → Rule
 rule_at n = cond (eqb n 1) Size (cond (eqb n 2) TooLong (cond (eqb n 3) Shape (cond (eqb n 4) BadName (cond (eqb n 5) BadValue (cond (eqb n 6) OutOfRange (cond (eqb n 7) Twice (cond (eqb n 8) Full (cond (eqb n 9) Wanting Joined))))))))
@@ -73,7 +70,7 @@ module _ (t : List ℕ) where
       let n = nodes_once t (length t) d.nodes ns a.nodes b.nodes in (
         n,
         records_once (PartLine t) (ElementIs t ns) (λ e. e.name.place) t (length t) (element_once t ns) d.elements d'.elements (subst (λ m. Elements t (length t) m d.elements) n a.elements) b.elements,
-        first_item d.port d'.port (records_once (PortLine t) (PortIs t ns) (λ p. p.name.place) t (length t) (port_once t ns) (d.port ∷ []) (d'.port ∷ []) (subst (λ m. Ports t (length t) m (d.port ∷ [])) n a.port) b.port),
+        ap (λ l. get_or l 0 d.port) (records_once (PortLine t) (PortIs t ns) (λ p. p.name.place) t (length t) (port_once t ns) (d.port ∷ []) (d'.port ∷ []) (subst (λ m. Ports t (length t) m (d.port ∷ [])) n a.port) b.port),
       )
 
   -- two refusals are one

@@ -68,25 +68,25 @@ stands_some t l kd x never =
     ⊎_elim (λ y. absurd (never y.1)) (λ y. some_fields t l.fields kd (⊎_elim (λ u. inl u.1) (λ u. inr u.1) y.1) never) x
 
 pub part_some : (t : List ℕ) (l : Line) → PartLine t l → 0 < length l.fields
-part_some t l x = stands_some t l (Part x.0) x.1 (λ e. let z : ◌≡◌ {A = ℕ} 0 1 = cc in omega arith)
+part_some t l x = stands_some t l (Part x.0) x.1 (λ e. cc)
 
 pub port_some : (t : List ℕ) (l : Line) → PortLine t l → 0 < length l.fields
-port_some t l x = stands_some t l Port x (λ e. let z : ◌≡◌ {A = ℕ} 0 1 = cc in omega arith)
+port_some t l x = stands_some t l Port x (λ e. cc)
 
 past_close : (kd : LineKind) → past kd ≡ Close → ⊥
-past_close Passed e = let z : ◌≡◌ {A = ℕ} 0 1 = cc in omega arith
-past_close (Part s) e = let z : ◌≡◌ {A = ℕ} 0 1 = cc in omega arith
-past_close Port e = let z : ◌≡◌ {A = ℕ} 0 1 = cc in omega arith
-past_close Close e = let z : ◌≡◌ {A = ℕ} 0 1 = cc in omega arith
-past_close Strange e = let z : ◌≡◌ {A = ℕ} 0 1 = cc in omega arith
+past_close Passed e = cc
+past_close (Part s) e = cc
+past_close Port e = cc
+past_close Close e = cc
+past_close Strange e = cc
 
 stands_close : (t : List ℕ) (l : Line) → Stands t l Close → (0 < l.start) × (kind_of_line t l.fields ≡ Close)
 stands_close t l =
-    ⊎_elim (λ x. let e = x.1 in let z : ◌≡◌ {A = ℕ} 0 1 = cc in absurd (omega arith))
+    ⊎_elim (λ x. let e = x.1 in cc)
     (λ x. (x.0, ⊎_elim (λ y. sym y.1) (λ y. absurd (past_close (kind_of_line t l.fields) (sym y.1))) x.1))
 
 has_port : (o : Option PortRecord) → is_some o ≡ true → 0 < length (port_list o)
-has_port None e = let z : ◌≡◌ {A = ℕ} 0 1 = cc in absurd (omega arith)
+has_port None e = cc
 has_port (Some p) e = omega arith
 
 port_there : (o : Option PortRecord) → 0 < length (port_list o) → is_some o ≡ true
@@ -446,18 +446,18 @@ module _ {t : List ℕ} {q : ℕ} {so : Reading} (h : Sofar t q so) (on : q < le
     passes open' never = skipped so.closed never shut_next (λ c. still_next c open')
 
     closes : kd ≡ Close → Sofar t q' (record { nodes = so.nodes; elements = so.elements; port = so.port; closed = true })
-    closes is = skipped true (λ c. subst Carries is c) (λ _. shut_now is) (λ e. let y : ◌≡◌ {A = ℕ} 0 1 = cc in absurd (omega arith))
+    closes is = skipped true (λ c. subst Carries is c) (λ _. shut_now is) (λ e. cc)
 
     adds : (e : Element) (ns' : List Node) → kd ≡ Part e.kind → 2 < length fs → e.name ≡ nth fs 0 → BothEnds t fs so.nodes ns' e.ends → Valued e.kind (bytes t (nth fs 3)) e.value.value → Sofar t q' (record { nodes = ns'; elements = so.elements ++ e ∷ []; port = so.port; closed = so.closed })
     adds e ns' is long named both value =
         let part : PartLine t here = (e.kind, subst (Stands t here) is stands) in
-        let port : PortLine t here → ⊥ = λ x. let z : ◌≡◌ {A = LineKind} Port (Part e.kind) = same_kind Port x ∙ is in let y : ◌≡◌ {A = ℕ} 0 1 = cc in omega arith in
+        let port : PortLine t here → ⊥ = λ x. cc (same_kind Port x) in
         let made : ElementIs t ns' here e = record { kind = part.1; name = named; from = both.3; to = both.4; value = value } in
         record {
           top = onward.1;
           begins = begins_next;
           shut = shut_next;
-          still = λ c. still_next c (λ d. let z : ◌≡◌ {A = LineKind} Close (Part e.kind) = sym d ∙ is in let y : ◌≡◌ {A = ℕ} 0 1 = cc in omega arith);
+          still = λ c. still_next c (λ d. cc);
           clean = clean_next;
           nodes = nodes_both (subst Carries (sym is) tt) long both.0 ns' both.1 both.2;
           elements = records_more (PartLine t) (ElementIs t so.nodes) (ElementIs t ns') (element_lift both.0 ns' both.1 both.2) (λ e. e.name.place) so.elements h.elements (part_some t) (λ l x y. ap (λ s. s.place) y.name) e part made;
@@ -472,13 +472,13 @@ module _ {t : List ℕ} {q : ℕ} {so : Reading} (h : Sofar t q so) (on : q < le
     opens : (p : PortRecord) (ns' : List Node) → kd ≡ Port → 2 < length fs → p.name ≡ nth fs 0 → BothEnds t fs so.nodes ns' p.ends → (is_some so.port ≡ true → ⊥) → Sofar t q' (record { nodes = ns'; elements = so.elements; port = Some p; closed = so.closed })
     opens p ns' is long named both only =
         let port : PortLine t here = subst (Stands t here) is stands in
-        let part : PartLine t here → ⊥ = λ x. let z : ◌≡◌ {A = LineKind} (Part x.0) Port = same_kind (Part x.0) x.1 ∙ is in let y : ◌≡◌ {A = ℕ} 0 1 = cc in omega arith in
+        let part : PartLine t here → ⊥ = λ x. cc (same_kind (Part x.0) x.1) in
         let made : PortIs t ns' here p = record { name = named; from = both.3; to = both.4 } in
         record {
           top = onward.1;
           begins = begins_next;
           shut = shut_next;
-          still = λ c. still_next c (λ d. let z : ◌≡◌ {A = LineKind} Close Port = sym d ∙ is in let y : ◌≡◌ {A = ℕ} 0 1 = cc in omega arith);
+          still = λ c. still_next c (λ d. cc);
           clean = clean_next;
           nodes = nodes_both (subst Carries (sym is) tt) long both.0 ns' both.1 both.2;
           elements = records_same (PartLine t) (ElementIs t so.nodes) (ElementIs t ns') (element_lift both.0 ns' both.1 both.2) (λ e. e.name.place) so.elements h.elements part;
@@ -500,7 +500,7 @@ module _ {t : List ℕ} {q : ℕ} {so : Reading} (h : Sofar t q so) (on : q < le
     step y = by kd refl
       where
         by : (k : LineKind) → k ≡ kd → Taken t fs k so y → Sofar t q' y
-        by Passed e w = subst (Sofar t q') (sym w) (passes (λ d. let z : ◌≡◌ {A = LineKind} Passed Close = e ∙ d in cc) (λ c. subst Carries (sym e) c))
+        by Passed e w = subst (Sofar t q') (sym w) (passes (λ d. cc) (λ c. subst Carries (sym e) c))
         by (Part s) e w =
             let is : kd ≡ Part w.0.kind = sym e ∙ ap Part (sym w.2) in
             let some : 4 ≤ length fs = subst (λ d. width d ≤ length fs) (sym e) wide in
@@ -509,4 +509,4 @@ module _ {t : List ℕ} {q : ℕ} {so : Reading} (h : Sofar t q so) (on : q < le
             let some : 3 ≤ length fs = subst (λ d. width d ≤ length fs) (sym e) wide in
             subst (Sofar t q') (sym w.3) (opens w.0 y.nodes (sym e) (omega arith) w.1 w.2 (no_port (sym e)))
         by Close e w = subst (Sofar t q') (sym w) (closes (sym e))
-        by Strange e w = subst (Sofar t q') (sym w) (passes (λ d. let z : ◌≡◌ {A = LineKind} Strange Close = e ∙ d in cc) (λ c. subst Carries (sym e) c))
+        by Strange e w = subst (Sofar t q') (sym w) (passes (λ d. cc) (λ c. subst Carries (sym e) c))
