@@ -10,6 +10,7 @@ pub struct OpenWave {
     pub(crate) rising: Wave,
 }
 
+// Kept: apart from the account of a report, whose sums are wider: one type for both widths would need a trait of numbers with laws, for these two alone.
 /// The page as it grows: what is known of it before it ends.
 #[derive(Clone, Copy)]
 pub struct Tally {

@@ -7,23 +7,6 @@ use crate::pages::{Page, Round};
 use crate::parts::Tally;
 use wave::waves::Wave;
 
-// The square of a wave, and its bound.
-fn squared(wave: Wave) -> u64
-    ensures value { result ≡ sq wave.value }
-    ensures bound { result ≤ most_square }
-{
-    wave.square()
-}
-
-// One round's share added to a page's swing.
-fn swung(swing: i64, entries: u32, fallen: u64, risen: u64) -> i64
-    requires { (entries < page_length) × ((unsigned_abs swing ≤ entries * most_square) × ((fallen ≤ most_square) × (risen ≤ most_square))) }
-    ensures value { result ≡ swing +ℤ (pos fallen -ℤ pos risen) }
-    ensures bound { unsigned_abs result ≤ (entries + 1) * most_square }
-{
-    swing + (fallen as i64 - risen as i64)
-}
-
 impl Tally {
     // A page without entries, begun at the stored energy `start`.
     pub(crate) fn fresh(start: u64) -> Tally
@@ -39,17 +22,21 @@ impl Tally {
         }
     }
 
+    // The swing and a round's share of it.
+    fn swung(self, round: Round) -> i64
+        requires { self.entries < page_length }
+        ensures value { result ≡ self.swing +ℤ (pos (sq round.falling.value) -ℤ pos (sq round.rising.value)) }
+        ensures bound { unsigned_abs result ≤ (self.entries + 1) * most_square }
+    {
+        self.swing + (round.falling.square() as i64 - round.rising.square() as i64)
+    }
+
     // One round more.
     pub(crate) fn counted(self, round: Round) -> Tally
         requires { (self.entries < page_length) × ((round.absorbed ≤ most_absorbed) × (round.shortened ≤ most_count)) }
         ensures { Entered self round.rising.value round.falling.value round.absorbed round.shortened 0 result }
     {
-        let swing = swung(
-            self.swing,
-            self.entries,
-            squared(round.falling),
-            squared(round.rising),
-        );
+        let swing = self.swung(round);
         Tally {
             entries: self.entries + 1,
             start: self.start,
