@@ -128,7 +128,7 @@ impl<P: Port, C: Closing> Rig<P, C> {
     fn fits(&self, wave: &OpenWave) -> bool
         ensures { MatchBool result (Fits P.Port self.now wave.now) (Fits P.Port self.now wave.now → ⊥) }
     {
-        self.raised && wave.number == self.number && wave.rising.get() == self.port.rising().get()
+        self.raised && wave.number == self.number && wave.rising == self.port.rising()
     }
 
     /// A round with the caller's own falling wave f. A refused open wave is handed back.

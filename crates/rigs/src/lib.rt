@@ -13,10 +13,7 @@ use told::Tells;
 
 /// The number of a refusal, or 0.
 fn number<T: Drop>(answer: Result<T, Refusal>) -> u32 {
-    match answer {
-        Ok(_) => 0,
-        Err(why) => why.told().number,
-    }
+    answer.err().map_or(0, |why| why.told().number)
 }
 
 /// What calls answer while a wave is open: a feed of `far`, a feed of 1, a raise, a clear and a turn. All are refused.
@@ -70,12 +67,10 @@ mod tests {
     use port::{Storage, StorageKind};
     use rig::PAGE_LENGTH;
     use std::test::Fail;
+    use wave::WeightRefusal;
 
-    fn capacitor(weight: u32) -> Result<Storage, Fail> {
-        match Storage::new(StorageKind::Capacitor, weight) {
-            Ok(x) => Ok(x),
-            Err(_) => Err(Fail::new("no weight")),
-        }
+    fn capacitor(weight: u32) -> Result<Storage, WeightRefusal> {
+        Storage::new(StorageKind::Capacitor, weight)
     }
 
     #[test]
@@ -83,9 +78,7 @@ mod tests {
         let mut rig = Rig::new(capacitor(5)?, Stiff, 7);
         assert_eq!(rt; number(rig.feed(100)), 0);
         assert_eq!(rt; rig.port().stored(), 200000);
-        let Ok(wave) = rig.raise() else {
-            return Err(Fail::new("not raised"));
-        };
+        let wave = rig.raise()?;
         let codes = while_open(&mut rig, 262144);
         let rising = wave.rising().get();
         let answered = match rig.answer(wave, -7) {
@@ -101,9 +94,7 @@ mod tests {
         assert_eq!(rt; answered, -7);
         assert_eq!(rt; rig.port().stored(), 245);
         assert_eq!(rt; rig.clear().ok(), Some(245));
-        let Ok(page) = rig.turn() else {
-            return Err(Fail::new("not turned"));
-        };
+        let page = rig.turn()?;
         assert_eq!(rt;
             [
                 page.start,
@@ -124,9 +115,7 @@ mod tests {
     fn a_wave_of_another_number(rt: HostRuntime) -> Result<(), Fail> {
         let mut first = Rig::new(capacitor(5)?, Short, 7);
         let mut second = Rig::new(capacitor(5)?, Diode, 8);
-        let Ok(wave) = first.raise() else {
-            return Err(Fail::new("not raised"));
-        };
+        let wave = first.raise()?;
         let (wave, answered, withdrawn) = foreign(&mut second, wave, 3);
         settle(&mut first, wave);
         assert_eq!(rt; answered, 19);
@@ -166,34 +155,21 @@ mod tests {
         assert_eq!(rt; number(rig.block(&[1, 2, 3], &mut out)), 20);
         assert_eq!(rt; number(rig.block(&[1], &mut out)), 21);
         assert_eq!(rt; out, [1, 2, 3]);
-        assert_eq!(rt; rig.turn().ok().ok_or("not turned")?.entries, PAGE_LENGTH);
+        assert_eq!(rt; rig.turn()?.entries, PAGE_LENGTH);
         assert_eq!(rt; number(rig.feed(0)), 0);
         assert_eq!(rt; rig.entries(), 1);
         Ok(())
     }
 
     fn door_line() -> Result<Adaptor<Storage, Adaptor<Storage, Resistor>>, Fail> {
-        let Ok(coil) = Storage::new(StorageKind::Coil, 31) else {
-            return Err(Fail::new("coil"));
-        };
-        let Ok(listener) = Resistor::new(166, true) else {
-            return Err(Fail::new("listener"));
-        };
-        let Ok(shunt) = Adaptor::new(Way::Parallel, capacitor(320)?, listener) else {
-            return Err(Fail::new("parallel"));
-        };
-        match Adaptor::new(Way::Series, coil, shunt) {
-            Ok(line) => Ok(line),
-            Err(_) => Err(Fail::new("series")),
-        }
+        let coil = Storage::new(StorageKind::Coil, 31)?;
+        let shunt = Adaptor::new(Way::Parallel, capacitor(320)?, Resistor::new(166, true)?)?;
+        Ok(Adaptor::new(Way::Series, coil, shunt)?)
     }
 
     #[test]
     fn a_block(rt: HostRuntime) -> Result<(), Fail> {
-        let Ok(source) = Source::new(166) else {
-            return Err(Fail::new("source"));
-        };
-        let mut rig = Rig::new(door_line()?, source, 1);
+        let mut rig = Rig::new(door_line()?, Source::new(166)?, 1);
         let mut out = [7; 6];
         assert_eq!(rt; number(rig.block(&[0xfa, 0, 0], &mut out)), 21);
         assert_eq!(rt;
@@ -219,21 +195,12 @@ mod tests {
         Ok(())
     }
 
-    fn resistor(weight: u32) -> Result<Resistor, Fail> {
-        match Resistor::new(weight, true) {
-            Ok(x) => Ok(x),
-            Err(_) => Err(Fail::new("no weight")),
-        }
-    }
-
     #[test]
     fn a_wave_of_the_same_number_that_is_another(rt: HostRuntime) -> Result<(), Fail> {
         let mut first = Rig::new(capacitor(5)?, Stiff, 7);
-        let mut second = Rig::new(resistor(9)?, Stiff, 7);
+        let mut second = Rig::new(Resistor::new(9, true)?, Stiff, 7);
         assert_eq!(rt; number(first.feed(100)), 0);
-        let Ok(wave) = first.raise() else {
-            return Err(Fail::new("not raised"));
-        };
+        let wave = first.raise()?;
         let Ok(own) = second.raise() else {
             settle(&mut first, wave);
             return Err(Fail::new("not raised"));
