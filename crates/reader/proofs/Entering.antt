@@ -6,13 +6,12 @@ use Rattle.cut.specs.Cuts.{bytes}
 use Rattle.cut.specs.declared.Span.{Span}
 use Rattle.names.specs.Alike.{Alike}
 use Rattle.refusals.specs.declared.Rule.TheVariants.{Full}
-use Rattle.reader.specs.declared.LineKind.{LineKind}
+use Rattle.reader.specs.declared.line.CutLine.{CutLine}
 use Rattle.reader.specs.declared.Node.{Node}
 use Rattle.reader.specs.declared.Ends.{Ends}
 use Rattle.reader.specs.Lines.{nth, Carries}
 use Rattle.reader.specs.Records.{NumberIs}
-use Rattle.reader.specs.Faults.{EndsFault}
-use Rattle.reader.specs.Inner.{Entered, Overfull, CrowdedFirst, CrowdedSecond, EndsAre}
+use Rattle.reader.specs.Inner.{Entered, Overfull, EndsFaultOf, EndsAre}
 use Rattle.refusals.specs.Refusals.{number}
 use Rattle.refusals.specs.Order.{Least}
 
@@ -39,8 +38,8 @@ module _ (t : List ℕ) (ns : List Node) (s : Span) where
       x
 
 -- the first end of a line is entered
-module _ (t : List ℕ) (kd : LineKind) (fs : List Span) (ns mid : List Node) (there : 2 < length fs) (carries : Carries kd) (one : Entered t ns (nth fs 1) mid) (room₁ : Overfull t ns (nth fs 1) → ⊥) where
-  pub ends_full : Overfull t mid (nth fs 2) → Least (EndsFault t kd fs (CrowdedFirst t ns fs) (CrowdedSecond t ns fs)) (Some (record { place = (nth fs 2).place; rule = Full }))
+module _ (l : CutLine) (ns mid : List Node) (there : 2 < length l.fields.now) (carries : Carries l.kind) (one : Entered l.text.now ns (nth l.fields.now 1) mid) (room₁ : Overfull l.text.now ns (nth l.fields.now 1) → ⊥) where
+  pub ends_full : Overfull l.text.now mid (nth l.fields.now 2) → Least (EndsFaultOf l ns) (Some (record { place = (nth l.fields.now 2).place; rule = Full }))
   ends_full over = (
     (carries, inr (refl, there, inl ((mid, one, over), refl))),
     λ p r x.
@@ -49,11 +48,11 @@ module _ (t : List ℕ) (kd : LineKind) (fs : List Span) (ns mid : List Node) (t
   )
 
   -- and the second
-  module _ (room₂ : Overfull t mid (nth fs 2) → ⊥) where
-    pub ends_fine : (Alike (bytes t (nth fs 1)) (bytes t (nth fs 2)) → ⊥) → Least (EndsFault t kd fs (CrowdedFirst t ns fs) (CrowdedSecond t ns fs)) None
+  module _ (room₂ : Overfull l.text.now mid (nth l.fields.now 2) → ⊥) where
+    pub ends_fine : (Alike (bytes l.text.now (nth l.fields.now 1)) (bytes l.text.now (nth l.fields.now 2)) → ⊥) → Least (EndsFaultOf l ns) None
     ends_fine other p r x =
         ⊎_elim (λ y. room₁ y.2)
-        (λ y. ⊎_elim (λ z. room₂ (subst (λ l. Overfull t l (nth fs 2)) (entered_same t ns (nth fs 1) z.0.0 mid z.0.1 one) z.0.2)) (λ z. other z.0) y.2) x.1
+        (λ y. ⊎_elim (λ z. room₂ (subst (λ m. Overfull l.text.now m (nth l.fields.now 2)) (entered_same l.text.now ns (nth l.fields.now 1) z.0.0 mid z.0.1 one) z.0.2)) (λ z. other z.0) y.2) x.1
 
-    pub ends_are : (after : List Node) (e : Ends) → Entered t mid (nth fs 2) after → NumberIs t mid (nth fs 1) e.from.index → NumberIs t after (nth fs 2) e.to.index → EndsAre t kd fs ns after (Some e)
-    ends_are after e two from to = (carries, (mid, one, two, number_later t mid (nth fs 2) after (nth fs 1) e.from.index two from, to))
+    pub ends_are : (after : List Node) (e : Ends) → Entered l.text.now mid (nth l.fields.now 2) after → NumberIs l.text.now mid (nth l.fields.now 1) e.from.index → NumberIs l.text.now after (nth l.fields.now 2) e.to.index → EndsAre l ns after (Some e)
+    ends_are after e two from to = (carries, (mid, one, two, number_later l.text.now mid (nth l.fields.now 2) after (nth l.fields.now 1) e.from.index two from, to))

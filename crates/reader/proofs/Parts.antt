@@ -13,35 +13,36 @@ use Rattle.values.specs.declared.Wrong.{Wrong}
 use Rattle.values.proofs.Numerals.{value_fine, fault_only}
 use Rattle.refusals.specs.declared.Rule.{Rule}
 use Rattle.refusals.specs.declared.Rule.TheVariants.{Full}
+use Rattle.reader.specs.declared.line.CutLine.{CutLine}
 use Rattle.reader.specs.declared.LineKind.{LineKind}
 use Rattle.reader.specs.declared.LineKind.TheVariants.{Part}
 use Rattle.reader.specs.declared.Node.{Node}
 use Rattle.reader.specs.Limits.{most_nodes}
 use Rattle.reader.specs.Lines.{nth}
 use Rattle.reader.specs.Records.{Among, NumberIs}
-use Rattle.reader.specs.Faults.{rule_for, ValueFaultAt, NameFault}
-use Rattle.reader.specs.Inner.{Overfull, Entered, ValueIs}
+use Rattle.reader.specs.Faults.{rule_for, NameFault}
+use Rattle.reader.specs.Inner.{Overfull, Entered, ValueFaultOf, ValueIs}
 use Rattle.refusals.specs.Refusals.{number}
 use Rattle.refusals.specs.Order.{Least}
 
 pub same_part : (kd : LineKind) (s s' : Kind) → kd ≡ Part s → kd ≡ Part s' → s ≡ s'
 same_part kd s s' a b = cc
 
-module _ (t : List ℕ) (kd : LineKind) (fs : List Span) (s : Kind) (bs : List ℕ) (is : kd ≡ Part s) (e : bs ≡ bytes t (nth fs 3)) where
-  pub value_right : (v : Value) → Valued s bs v.value → Least (ValueFaultAt t kd fs) None × ValueIs t kd fs (Some v)
+module _ (l : CutLine) (s : Kind) (bs : List ℕ) (is : l.kind ≡ Part s) (e : bs ≡ bytes l.text.now (nth l.fields.now 3)) where
+  pub value_right : (v : Value) → Valued s bs v.value → Least (ValueFaultOf l) None × ValueIs l (Some v)
   value_right v h =
       let h' = subst (λ b. Valued s b v.value) e h in (
-        λ p r x. value_fine s (bytes t (nth fs 3)) v.value h' v.within x.1.1 (subst (λ c. ValueFault c (bytes t (nth fs 3)) x.1.1) (same_part kd x.1.0 s x.1.2 is) x.1.4),
+        λ p r x. value_fine s (bytes l.text.now (nth l.fields.now 3)) v.value h' v.within x.1.1 (subst (λ c. ValueFault c (bytes l.text.now (nth l.fields.now 3)) x.1.1) (same_part l.kind x.1.0 s x.1.2 is) x.1.4),
         (s, is, h'),
       )
 
-  pub value_wrong : (w : Wrong) (r : Rule) → 3 < length fs → r ≡ rule_for w → ValueFault s bs w → Least (ValueFaultAt t kd fs) (Some (record { place = (nth fs 3).place; rule = r }))
-  value_wrong w r l re h =
+  pub value_wrong : (w : Wrong) (r : Rule) → 3 < length l.fields.now → r ≡ rule_for w → ValueFault s bs w → Least (ValueFaultOf l) (Some (record { place = (nth l.fields.now 3).place; rule = r }))
+  value_wrong w r long re h =
       let h' = subst (λ b. ValueFault s b w) e h in (
-        (refl, (s, w, is, l, h', re)),
+        (refl, (s, w, is, long, h', re)),
         λ p r' x.
-            let y = subst (λ c. ValueFault c (bytes t (nth fs 3)) x.1.1) (same_part kd x.1.0 s x.1.2 is) x.1.4 in
-            let same = fault_only s (bytes t (nth fs 3)) w x.1.1 h' y in
+            let y = subst (λ c. ValueFault c (bytes l.text.now (nth l.fields.now 3)) x.1.1) (same_part l.kind x.1.0 s x.1.2 is) x.1.4 in
+            let same = fault_only s (bytes l.text.now (nth l.fields.now 3)) w x.1.1 h' y in
             (omega (arith, x.0), λ _. omega (arith, ap number (x.1.5 ∙ ap rule_for same ∙ sym re))),
       )
 

@@ -21,8 +21,8 @@ use Rattle.reader.specs.declared.Node.{Node}
 use Rattle.reader.specs.Limits.{most_elements}
 use Rattle.reader.specs.Lines.{nth, width, Carries}
 use Rattle.reader.specs.Records.{Among, NumberIs}
-use Rattle.reader.specs.Faults.{ValueFaultAt, NameRule, EndsFault, PlainFault}
-use Rattle.reader.specs.Inner.{Entered, CrowdedFirst, CrowdedSecond, CutInto, FaultOf, BothEnds, EndsAre, ValueIs, Taken}
+use Rattle.reader.specs.Faults.{NameRule}
+use Rattle.reader.specs.Inner.{Entered, CutInto, FaultOf, PlainFaultOf, ValueFaultOf, EndsFaultOf, BothEnds, EndsAre, ValueIs, Taken}
 use Rattle.refusals.specs.Order.{Least, first_of}
 use Rattle.reader.proofs.Parts.{same_part}
 use Rattle.refusals.proofs.Leasts.{least_either}
@@ -62,20 +62,11 @@ module _ (l : CutLine) (so : Reading) where
   abbrev few : List Span
   few = l.fields.now
 
-  abbrev Plain : ℕ → Rule → Type 0
-  Plain = PlainFault t l.span.place (stop l.span) few l.kind (Among (λ e. e.name) t so.elements (bytes t (nth few 0))) (most_elements ≤ length so.elements) (is_some so.port ≡ true)
-
-  abbrev Valueless : ℕ → Rule → Type 0
-  Valueless = ValueFaultAt t l.kind few
-
-  abbrev Both : ℕ → Rule → Type 0
-  Both = EndsFault t l.kind few (CrowdedFirst t so.nodes few) (CrowdedSecond t so.nodes few)
-
   -- the first fault is the first of those of the parts
   pub first_fault : (A : Option Value → Type 0) (B : Option Ends → Type 0) (p : Option Fault) (rv : Result (Option Value) Fault) (rx : Result (Option Ends) Fault)
-      → Least Plain p → MatchResult rv (λ v. Least Valueless None × A v) (λ f. Least Valueless (Some f)) → MatchResult rx (λ v. Least Both None × B v) (λ f. Least Both (Some f))
+      → Least (PlainFaultOf l so.elements (is_some so.port)) p → MatchResult rv (λ v. Least (ValueFaultOf l) None × A v) (λ f. Least (ValueFaultOf l) (Some f)) → MatchResult rx (λ v. Least (EndsFaultOf l so.nodes) None × B v) (λ f. Least (EndsFaultOf l so.nodes) (Some f))
       → Least (FaultOf l l.fields.now so) (first_of p (first_of (result_err rv) (result_err rx)))
-  first_fault A B p rv rx hp hv hx = least_either Plain (λ q r. Valueless q r ⊎ Both q r) p _ hp (least_either Valueless Both _ _ (err_least Valueless A rv hv) (err_least Both B rx hx))
+  first_fault A B p rv rx hp hv hx = least_either (PlainFaultOf l so.elements (is_some so.port)) (λ q r. ValueFaultOf l q r ⊎ EndsFaultOf l so.nodes q r) p _ hp (least_either (ValueFaultOf l) (EndsFaultOf l so.nodes) _ _ (err_least (ValueFaultOf l) A rv hv) (err_least (EndsFaultOf l so.nodes) B rx hx))
 
   -- the first five fields tell the first fault
   pub told : (fs : List Span) → CutInto l fs → (o : Option Fault) → Least (FaultOf l few so) o → Least (FaultOf l fs so) o
@@ -85,18 +76,18 @@ module _ (l : CutLine) (so : Reading) where
     pub wide : width l.kind ≤ length few
     wide = ⊎_elim (λ m. absurd (none (stop l.span) Shape (inl (inr (inr (inl (refl, (m, refl)))))))) (λ m. m) (cases_lt (length few) (width l.kind))
 
-    pub value_sure : (A : Option Value → Type 0) (r : Result (Option Value) Fault) → MatchResult r (λ v. Least Valueless None × A v) (λ f. Least Valueless (Some f)) → is_ok r ≡ true
-    value_sure A r h = ok_sure Valueless (FaultOf l l.fields.now so) A r h (λ p x y. inr (inl y)) none
+    pub value_sure : (A : Option Value → Type 0) (r : Result (Option Value) Fault) → MatchResult r (λ v. Least (ValueFaultOf l) None × A v) (λ f. Least (ValueFaultOf l) (Some f)) → is_ok r ≡ true
+    value_sure A r h = ok_sure (ValueFaultOf l) (FaultOf l l.fields.now so) A r h (λ p x y. inr (inl y)) none
 
-    pub ends_sure : (A : Option Ends → Type 0) (r : Result (Option Ends) Fault) → MatchResult r (λ v. Least Both None × A v) (λ f. Least Both (Some f)) → is_ok r ≡ true
-    ends_sure A r h = ok_sure Both (FaultOf l l.fields.now so) A r h (λ p x y. inr (inr y)) none
+    pub ends_sure : (A : Option Ends → Type 0) (r : Result (Option Ends) Fault) → MatchResult r (λ v. Least (EndsFaultOf l so.nodes) None × A v) (λ f. Least (EndsFaultOf l so.nodes) (Some f)) → is_ok r ≡ true
+    ends_sure A r h = ok_sure (EndsFaultOf l so.nodes) (FaultOf l l.fields.now so) A r h (λ p x y. inr (inr y)) none
 
     -- a line with two ends, or with a value, has them
-    pub ends_there : (ns' : List Node) (o : Option Ends) → Carries l.kind → EndsAre t l.kind few so.nodes ns' o → is_some o ≡ true
+    pub ends_there : (ns' : List Node) (o : Option Ends) → Carries l.kind → EndsAre l so.nodes ns' o → is_some o ≡ true
     ends_there ns' None c h = absurd (h.1 c (two l.kind c wide))
     ends_there ns' (Some x) c h = refl
 
-    pub value_there : (s : Kind) (o : Option Value) → l.kind ≡ Part s → ValueIs t l.kind few o → is_some o ≡ true
+    pub value_there : (s : Kind) (o : Option Value) → l.kind ≡ Part s → ValueIs l o → is_some o ≡ true
     value_there s None k h = absurd (h s k (let m : 4 ≤ length few = subst (λ d. width d ≤ length few) k wide in omega arith))
     value_there s (Some v) k h = refl
 
@@ -110,7 +101,7 @@ module _ (l : CutLine) (so : Reading) where
         (cases_lt (length so.elements) most_elements)
 
     -- a line without ends enters no node
-    pub nodes_kept : (ns' : List Node) (r : Result (Option Ends) Fault) → MatchResult r (λ v. Least Both None × EndsAre t l.kind few so.nodes ns' v) (λ f. Least Both (Some f)) → (Carries l.kind → ⊥) → ns' ≡ so.nodes
+    pub nodes_kept : (ns' : List Node) (r : Result (Option Ends) Fault) → MatchResult r (λ v. Least (EndsFaultOf l so.nodes) None × EndsAre l so.nodes ns' v) (λ f. Least (EndsFaultOf l so.nodes) (Some f)) → (Carries l.kind → ⊥) → ns' ≡ so.nodes
     nodes_kept ns' (Ok None) h never = h.1.0 never
     nodes_kept ns' (Ok (Some x)) h never = absurd (never h.1.0)
     nodes_kept ns' (Err f) h never = absurd (none f.place f.rule (inr (inr h.0)))
@@ -120,12 +111,12 @@ module _ (l : CutLine) (so : Reading) where
       same : (k : ℕ) → k < 5 → nth few k ≡ nth fs k
       same = nth_few t l.span.place (stop l.span) few fs cut.0 cut.1
 
-      both_ends : (ns' : List Node) (x : Ends) → EndsAre t l.kind few so.nodes ns' (Some x) → BothEnds t fs so.nodes ns' x
+      both_ends : (ns' : List Node) (x : Ends) → EndsAre l so.nodes ns' (Some x) → BothEnds t fs so.nodes ns' x
       both_ends ns' x h =
           let F : Span → Span → Type 0 = λ f g. (mid : List Node) × Entered t so.nodes f mid × Entered t mid g ns' × NumberIs t ns' f x.from.index × NumberIs t ns' g x.to.index in
           subst (λ f. F f (nth fs 2)) (same 1 (omega arith)) (subst (λ g. F (nth few 1) g) (same 2 (omega arith)) h.1)
 
-      pub part_taken : (s : Kind) (y : Reading) (x : Ends) (v : Value) → l.kind ≡ Part s → EndsAre t l.kind few so.nodes y.nodes (Some x) → ValueIs t l.kind few (Some v)
+      pub part_taken : (s : Kind) (y : Reading) (x : Ends) (v : Value) → l.kind ≡ Part s → EndsAre l so.nodes y.nodes (Some x) → ValueIs l (Some v)
           → y.elements ≡ take most_elements (so.elements ++ record { name = nth few 0; kind = s; ends = x; value = v } ∷ []) → y.port ≡ so.port → y.closed ≡ so.closed → Taken t fs l.kind so y
       part_taken s y x v k he hv added port closed =
           let e : Element = record { name = nth few 0; kind = s; ends = x; value = v } in
@@ -139,7 +130,7 @@ module _ (l : CutLine) (so : Reading) where
             λ i. record { nodes = y.nodes; elements = more i; port = port i; closed = closed i },
           )
 
-      pub port_taken : (y : Reading) (x : Ends) → l.kind ≡ Port → EndsAre t l.kind few so.nodes y.nodes (Some x)
+      pub port_taken : (y : Reading) (x : Ends) → l.kind ≡ Port → EndsAre l so.nodes y.nodes (Some x)
           → y.elements ≡ so.elements → y.port ≡ Some (record { name = nth few 0; ends = x }) → y.closed ≡ so.closed → Taken t fs l.kind so y
       port_taken y x k he elements port closed =
           subst (λ d. Taken t fs d so y) (sym k) (

@@ -17,7 +17,7 @@ use Rattle.reader.specs.declared.PortRecord.{PortRecord}
 use Rattle.reader.specs.Limits.{most_elements, most_nodes}
 use Rattle.reader.specs.Lines.{nth, past, Carries, Closed}
 use Rattle.reader.specs.Records.{Among, Nodes, NumberIs, Names, Elements, Ports}
-use Rattle.reader.specs.Faults.{LineFaultBy, FaultBefore}
+use Rattle.reader.specs.Faults.{ValueFaultAt, EndsFault, PlainFault, LineFaultBy, FaultBefore}
 
 -- the kind as which a line that starts at a stands, by whether .end came before
 abbrev pub standing : ℕ → Bool → LineKind → LineKind
@@ -62,15 +62,29 @@ FaultOf l fs x = ReaderFault l.text.now l.span.place (stop l.span) fs l.kind x
 abbrev pub BothEnds : List ℕ → List Span → List Node → List Node → Ends → Type 0
 BothEnds t fs ns ns' e = (mid : List Node) × Entered t ns (nth fs 1) mid × Entered t mid (nth fs 2) ns' × NumberIs t ns' (nth fs 1) e.from.index × NumberIs t ns' (nth fs 2) e.to.index
 
--- the two ends of a line with the fields fs, where the nodes so far are ns, and ns' with the line's; none where it is of another kind or a field is missing
-abbrev pub EndsAre : List ℕ → LineKind → List Span → List Node → List Node → Option Ends → Type 0
-EndsAre t kd fs ns ns' None = ((Carries kd → ⊥) → ns' ≡ ns) × (Carries kd → 2 < length fs → ⊥)
-EndsAre t kd fs ns ns' (Some e) = Carries kd × BothEnds t fs ns ns' e
+-- the faults of a line but for its value and its ends, by the elements so far and whether there is a port
+abbrev pub PlainFaultOf : CutLine → List Element → Bool → ℕ → Rule → Type 0
+PlainFaultOf l es ported =
+    PlainFault l.text.now l.span.place (stop l.span) l.fields.now l.kind
+    (Among (λ e. e.name) l.text.now es (bytes l.text.now (nth l.fields.now 0))) (most_elements ≤ length es) (ported ≡ true)
+
+-- the faults of its value
+abbrev pub ValueFaultOf : CutLine → ℕ → Rule → Type 0
+ValueFaultOf l = ValueFaultAt l.text.now l.kind l.fields.now
+
+-- the faults of its ends, by the nodes so far
+abbrev pub EndsFaultOf : CutLine → List Node → ℕ → Rule → Type 0
+EndsFaultOf l ns = EndsFault l.text.now l.kind l.fields.now (CrowdedFirst l.text.now ns l.fields.now) (CrowdedSecond l.text.now ns l.fields.now)
+
+-- the two ends of a line, where the nodes so far are ns, and ns' with the line's; none where it is of another kind or a field is missing
+abbrev pub EndsAre : CutLine → List Node → List Node → Option Ends → Type 0
+EndsAre l ns ns' None = ((Carries l.kind → ⊥) → ns' ≡ ns) × (Carries l.kind → 2 < length l.fields.now → ⊥)
+EndsAre l ns ns' (Some e) = Carries l.kind × BothEnds l.text.now l.fields.now ns ns' e
 
 -- the value of an element line; none where the line is of another kind or has no fourth field
-abbrev pub ValueIs : List ℕ → LineKind → List Span → Option Value → Type 0
-ValueIs t kd fs None = (s : Kind) → kd ≡ Part s → 3 < length fs → ⊥
-ValueIs t kd fs (Some v) = (s : Kind) × (kd ≡ Part s) × Valued s (bytes t (nth fs 3)) v.value
+abbrev pub ValueIs : CutLine → Option Value → Type 0
+ValueIs l None = (s : Kind) → l.kind ≡ Part s → 3 < length l.fields.now → ⊥
+ValueIs l (Some v) = (s : Kind) × (l.kind ≡ Part s) × Valued s (bytes l.text.now (nth l.fields.now 3)) v.value
 
 -- what a line with the fields fs that stands as kd adds to what the lines before it hold
 abbrev pub Taken : List ℕ → List Span → LineKind → Reading → Reading → Type 0

@@ -5,8 +5,8 @@ ghost use Rattle.reader.specs.Limits.{most_elements};
 ghost use Rattle.refusals.specs.Order.{Least};
 ghost use Rattle.reader.specs.Lines.{nth};
 ghost use Rattle.reader.specs.Records.{Among};
-ghost use Rattle.reader.specs.Faults.{FormsFault, LongFault, MissingFault, ValueFaultAt, NameFault, PlainFault, rule_for};
-ghost use Rattle.reader.specs.Inner.{ValueIs};
+ghost use Rattle.reader.specs.Faults.{FormsFault, LongFault, MissingFault, NameFault, rule_for};
+ghost use Rattle.reader.specs.Inner.{PlainFaultOf, ValueFaultOf, ValueIs};
 
 use crate::line::CutLine;
 use crate::{Element, LARGEST_LINE, LineKind, MOST_ELEMENTS};
@@ -57,9 +57,7 @@ impl CutLine<'_> {
 
     // The value of an element, none where the line is of another kind or has no fourth field.
     pub(crate) fn value(&self) -> Result<Option<Value>, Fault>
-        ensures { MatchResult result
-            (λ v. Least (ValueFaultAt self.now.text.now self.now.kind self.now.fields.now) None × ValueIs self.now.text.now self.now.kind self.now.fields.now v)
-            (λ f. Least (ValueFaultAt self.now.text.now self.now.kind self.now.fields.now) (Some f)) }
+        ensures { MatchResult result (λ v. Least (ValueFaultOf self.now) None × ValueIs self.now v) (λ f. Least (ValueFaultOf self.now) (Some f)) }
     {
         let LineKind::Part(part) = self.kind else {
             return Ok(None);
@@ -97,7 +95,7 @@ impl CutLine<'_> {
 
     // The first fault of the line, but for its value and its ends.
     pub(crate) fn plain_fault(&self, elements: &[Element], ported: bool) -> Option<Fault>
-        ensures { Least (PlainFault self.now.text.now self.now.span.place (stop_of self.now.span) self.now.fields.now self.now.kind (Among (λ e. e.name) self.now.text.now elements.now (bytes self.now.text.now (nth self.now.fields.now 0))) (most_elements ≤ length elements.now) (ported ≡ true)) result }
+        ensures { Least (PlainFaultOf self.now elements.now ported) result }
     {
         let missing = self.missing_fault();
         let name = self.name_fault(elements, ported);

@@ -3,8 +3,7 @@ ghost use Rattle.std.specs.Prelude.{◌-◌, ◌<◌, ◌≤◌, length, Some, N
 ghost use Rattle.cut.specs.Cuts.{bytes};
 ghost use Rattle.names.specs.Alike.{Alike};
 ghost use Rattle.refusals.specs.Order.{Least};
-ghost use Rattle.reader.specs.Faults.{EndsFault};
-ghost use Rattle.reader.specs.Inner.{CrowdedFirst, CrowdedSecond, EndsAre};
+ghost use Rattle.reader.specs.Inner.{EndsFaultOf, EndsAre};
 
 use crate::line::CutLine;
 use crate::records::enter;
@@ -23,9 +22,8 @@ impl CutLine<'_> {
     // The ends of the line, none where it is of another kind or a field is missing.
     pub(crate) fn ends(&self, nodes: &mut Fixed<Node, MOST_NODES>) -> Result<Option<Ends>, Fault>
         ensures { MatchResult result
-            (λ e. Least (EndsFault self.now.text.now self.now.kind self.now.fields.now (CrowdedFirst self.now.text.now nodes.old self.now.fields.now) (CrowdedSecond self.now.text.now nodes.old self.now.fields.now)) None
-            × EndsAre self.now.text.now self.now.kind self.now.fields.now nodes.old nodes.new e)
-            (λ f. Least (EndsFault self.now.text.now self.now.kind self.now.fields.now (CrowdedFirst self.now.text.now nodes.old self.now.fields.now) (CrowdedSecond self.now.text.now nodes.old self.now.fields.now)) (Some f)) }
+            (λ e. Least (EndsFaultOf self.now nodes.old) None × EndsAre self.now nodes.old nodes.new e)
+            (λ f. Least (EndsFaultOf self.now nodes.old) (Some f)) }
     {
         if !self.kind.carries() {
             return Ok(None);

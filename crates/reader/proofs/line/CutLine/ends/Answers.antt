@@ -11,7 +11,7 @@ returns-in_err-to c =
     let one = c.in_ok-from.ensures in
     let full = c.in_err-to.ensures in
     let p = err_from_is_err_and c.from_residual-in_err-to.result c.from_residual-in_err-to.ensures.1 in
-    rw (p.1, p.2, full.1) (ends_full l.text.now l.kind l.fields.now _ _ (omega arith) (search rules) one.0 one.2 full.0)
+    rw (p.1, p.2, full.1) (ends_full l _ _ (omega arith) (search rules) one.0 one.2 full.0)
 
 pub returns : goal.returns
 returns c =
@@ -20,6 +20,6 @@ returns c =
     let two = c.in_ok-to.ensures in
     let there : 2 < length l.fields.now = omega arith in
     let carries : Carries l.kind = search rules in (
-      ends_fine l.text.now l.kind l.fields.now _ _ there carries one.0 one.2 two.2 (not_from_Decides _ c.same_name.ensures c.if-same_name.false),
-      ends_are l.text.now l.kind l.fields.now _ _ there carries one.0 one.2 two.2 _ _ two.0 one.1 two.1,
+      ends_fine l _ _ there carries one.0 one.2 two.2 (not_from_Decides _ c.same_name.ensures c.if-same_name.false),
+      ends_are l _ _ there carries one.0 one.2 two.2 _ _ two.0 one.1 two.1,
     )
