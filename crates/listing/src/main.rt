@@ -5,6 +5,7 @@ use cut::Span;
 use reader::{Listing, NodeNumber, read};
 use std::alloc::{AllocError, Global};
 use std::{env, fs, io};
+use told::Tells;
 
 // A listing beside the text that it was read from.
 #[derive(Clone, Copy)]
@@ -64,10 +65,8 @@ fn main(rt: HostRuntime) -> io::Result<()> {
             sheet.print(&rt)
         }
         Err(fault) => {
-            let layer = fault.layer();
-            let number = fault.number();
-            let place = fault.place();
-            println!(rt; "refused {layer} {number} {place}")
+            let told = fault.told();
+            println!(rt; "{told}")
         }
     }
 }

@@ -3,6 +3,7 @@
 
 use reader::read;
 use std::{fs, io};
+use told::Tells;
 
 fn main(rt: HostRuntime) -> io::Result<()> {
     for line in rt.lines(rt.alloc()) {
@@ -12,10 +13,8 @@ fn main(rt: HostRuntime) -> io::Result<()> {
         match read(text.as_slice()) {
             Ok(_) => println!(rt; "{name}: accepted")?,
             Err(fault) => {
-                let layer = fault.layer();
-                let number = fault.number();
-                let place = fault.place();
-                println!(rt; "{name}: refused {layer} {number} {place}")?;
+                let told = fault.told();
+                println!(rt; "{name}: {told}")?;
             }
         }
     }

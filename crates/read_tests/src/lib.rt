@@ -6,6 +6,7 @@ mod tests {
     use reader::{Listing, read};
     use refusals::Fault;
     use std::test::Fail;
+    use told::Tells;
     use values::Kind;
 
     const DOOR: &[u8] = b"door\nV1 1 0\nL1 1 2 100m\nC1 2 0 100n\nR1 2 0 600\n.end\n";
@@ -64,10 +65,11 @@ mod tests {
     #[test]
     fn refusals_have_layer_number_and_place(rt: HostRuntime) -> Result<(), Fail> {
         let fault = refused(b"door\nV1 a 0\nR1 b B 600\n.end\n")?;
-        assert!(rt; fault.layer() == 1);
-        assert!(rt; fault.number() == 10);
-        assert!(rt; fault.place() == 17);
-        assert!(rt; refused(b"")?.number() == 1);
+        let told = fault.told();
+        assert!(rt; told.layer == 1);
+        assert!(rt; told.number == 10);
+        assert!(rt; told.place == 17);
+        assert!(rt; refused(b"")?.told().number == 1);
         Ok(())
     }
 }

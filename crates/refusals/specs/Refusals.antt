@@ -1,5 +1,6 @@
 -- The refusals of reading.
 use Rattle.std.specs.Prelude.{ℕ}
+use Rattle.told.specs.declared.Told.{Told}
 use Rattle.refusals.specs.declared.Rule.{Rule}
 use Rattle.refusals.specs.declared.Fault.{Fault}
 use Rattle.refusals.specs.declared.Rule.TheVariants.{Size, TooLong, Shape, BadName, BadValue, OutOfRange, Twice, Full, Wanting, Joined}
@@ -18,5 +19,5 @@ number Wanting = 9
 number Joined = 10
 
 -- a refusal as it is told: its layer, which is 1 for all of reading, the number of its rule, and its place
-abbrev pub told : Fault → ℕ × ℕ × ℕ
-told f = (1, number f.rule, f.place)
+abbrev pub told : Fault → Told
+told f = record { layer = 1; number = number f.rule; place = f.place }

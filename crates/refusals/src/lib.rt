@@ -2,14 +2,16 @@
 #![tactic(auto)]
 
 ghost use Rattle.std.specs.Prelude.{◌≡◌};
-ghost use Rattle.refusals.specs.Refusals.{told};
+ghost use Rattle.refusals.specs.Refusals.{number, told};
 ghost use Rattle.refusals.specs.Order.{first_of};
 
+use told::{Tells, Told};
+
 // The rules that a listing may break, in the order of their numbers.
-#[derive(Clone, Copy, PartialEq)]
+#[derive(Clone, Copy, Debug, PartialEq, Eq, PartialOrd, Ord)]
 pub enum Rule {
     // the text is empty or too large
-    Size,
+    Size = 1,
     // a line is too long
     TooLong,
     // a first field is unknown, a field is too many, stands after .end, or is missing
@@ -31,6 +33,13 @@ pub enum Rule {
 }
 
 impl Rule {
+    // The number of the rule, 1 to 10.
+    fn number(self) -> u32
+        ensures { result ≡ number self }
+    {
+        self as u32
+    }
+
     // The rule is broken at this place.
     pub fn at(self, place: usize) -> Fault
         ensures { result ≡ record { place = place; rule = self } }
@@ -39,62 +48,35 @@ impl Rule {
     }
 }
 
-// A refusal in reading: the broken rule, and the place where it is broken.
-#[derive(Clone, Copy, PartialEq)]
+// A refusal in reading: the broken rule, and the place where it is broken, the byte of the text counted from 0. The earlier of two is the lesser.
+#[derive(Clone, Copy, Debug, PartialEq, Eq, PartialOrd, Ord)]
 pub struct Fault {
     pub place: usize,
     pub rule: Rule,
 }
 
 // Reading is the first layer of all that may refuse.
-const LAYER: u8 = 1;
+const LAYER: u32 = 1;
 
-impl Fault {
-    // The number of the broken rule, 1 to 10.
-    pub fn number(self) -> u8
-        ensures { result ≡ (told self).1 }
-    {
-        match self.rule {
-            Rule::Size => 1,
-            Rule::TooLong => 2,
-            Rule::Shape => 3,
-            Rule::BadName => 4,
-            Rule::BadValue => 5,
-            Rule::OutOfRange => 6,
-            Rule::Twice => 7,
-            Rule::Full => 8,
-            Rule::Wanting => 9,
-            Rule::Joined => 10,
+impl Tells for Fault {
+    ghost says = { told };
+
+    fn told(&self) -> Told {
+        Told {
+            layer: LAYER,
+            number: self.rule.number(),
+            place: self.place as u64,
         }
-    }
-
-    pub fn layer(self) -> u8
-        ensures { result ≡ (told self).0 }
-    {
-        LAYER
-    }
-
-    // The byte of the text where the rule is broken, counted from 0.
-    pub fn place(self) -> usize
-        ensures { result ≡ (told self).2 }
-    {
-        self.place
     }
 }
 
 // The fault that is reported of two.
+#[tactic(auto, using(crate::proofs::Lesser::lesser_first))]
 pub fn sooner(a: Option<Fault>, b: Option<Fault>) -> Option<Fault>
     ensures { result ≡ first_of a b }
 {
-    let Some(f) = a else {
-        return b;
-    };
-    let Some(g) = b else {
-        return a;
-    };
-    if g.place < f.place || g.place == f.place && g.number() < f.number() {
-        b
-    } else {
-        a
+    match (a, b) {
+        (Some(f), Some(g)) => Some(f.min(g)),
+        (f, g) => f.or(g),
     }
 }
