@@ -16,7 +16,7 @@ use Rattle.assembly.specs.declared.assembling.Assembled.{Assembled}
 
 -- every refusal as it is told
 abbrev pub row : AssemblyFault → Row
-row (Reading f) = record { layer = (told f).0; number = (told f).1; place = (told f).2 }
+row (Reading f) = record { layer = (told f).layer; number = (told f).number; place = (told f).place }
 row OutOfRange = record { layer = 2; number = 11; place = 0 }
 row (BadWeight p) = record { layer = 2; number = 12; place = p }
 row Irreducible = record { layer = 2; number = 13; place = 0 }

@@ -12,7 +12,7 @@ impl AssemblyFault {
         ensures { result ≡ (row self.now).layer }
     {
         match self {
-            AssemblyFault::Reading(fault) => fault.layer(),
+            AssemblyFault::Reading(_) => 1,
             AssemblyFault::OutOfRange
             | AssemblyFault::BadWeight(_)
             | AssemblyFault::Irreducible
@@ -26,7 +26,7 @@ impl AssemblyFault {
         ensures { result ≡ (row self.now).number }
     {
         match self {
-            AssemblyFault::Reading(fault) => fault.number(),
+            AssemblyFault::Reading(fault) => fault.rule.number() as u8,
             AssemblyFault::OutOfRange => 11,
             AssemblyFault::BadWeight(_) => 12,
             AssemblyFault::Irreducible => 13,
@@ -40,7 +40,7 @@ impl AssemblyFault {
         ensures { result ≡ (row self.now).place }
     {
         match self {
-            AssemblyFault::Reading(fault) => fault.place(),
+            AssemblyFault::Reading(fault) => fault.place,
             AssemblyFault::BadWeight(place) => *place,
             AssemblyFault::TooLarge(place) => *place,
             AssemblyFault::OutOfRange | AssemblyFault::Irreducible | AssemblyFault::NoEar => 0,

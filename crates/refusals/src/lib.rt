@@ -1,7 +1,7 @@
 // The refusals of reading, each a broken rule and its place, and which of two is reported.
 #![tactic(auto)]
 
-ghost use Rattle.std.specs.Prelude.{◌≡◌};
+ghost use Rattle.std.specs.Prelude.{◌≡◌, ◌≤◌};
 ghost use Rattle.refusals.specs.Refusals.{number, told};
 ghost use Rattle.refusals.specs.Order.{first_of};
 
@@ -34,8 +34,9 @@ pub enum Rule {
 
 impl Rule {
     // The number of the rule, 1 to 10.
-    fn number(self) -> u32
-        ensures { result ≡ number self }
+    pub fn number(self) -> u32
+        ensures value { result ≡ number self }
+        ensures ten { result ≤ 10 }
     {
         self as u32
     }
