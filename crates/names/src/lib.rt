@@ -21,10 +21,7 @@ pub fn find<R: Named>(records: &[R], text: &[u8], name: &[u8]) -> Option<usize>
         (NoneCalled R.Named.named text.now name.now records.now (length records.now))
         (λ i. FirstCalled R.Named.named text.now name.now records.now i) }
 {
-    for (i, record) in records.iter().enumerate() {
-        if record.name().of(text).eq_ignore_ascii_case(name) {
-            return Some(i);
-        }
-    }
-    None
+    records
+        .iter()
+        .position(|record| record.name().of(text).eq_ignore_ascii_case(name))
 }
