@@ -12,34 +12,28 @@ mod tests {
     const DOOR: &[u8] = b"door\nV1 1 0\nL1 1 2 100m\nC1 2 0 100n\nR1 2 0 600\n.end\n";
 
     fn accepted(text: &[u8]) -> Result<Listing, Fail> {
-        match read(text) {
-            Ok(listing) => Ok(listing),
-            Err(_) => Err(Fail::new("refused")),
-        }
+        read(text).map_err(|_| Fail::new("refused"))
     }
 
     fn refused(text: &[u8]) -> Result<Fault, Fail> {
-        match read(text) {
-            Ok(_) => Err(Fail::new("accepted")),
-            Err(fault) => Ok(fault),
-        }
+        read(text).err().ok_or_else(|| Fail::new("accepted"))
     }
 
     #[test]
     fn elements_keep_place_and_length(rt: HostRuntime) -> Result<(), Fail> {
         let listing = accepted(DOOR)?;
         let elements = listing.elements.as_slice();
-        assert!(rt; elements.len() == 3);
-        assert!(rt; elements[0].name.place == 12);
-        assert!(rt; elements[1].name.place == 24);
-        assert!(rt; elements[2].name.place == 36);
-        assert!(rt; elements[2].name.len == 2);
-        assert!(rt; elements[0].kind == Kind::Coil);
-        assert!(rt; elements[0].value.get() == 100_000);
-        assert!(rt; elements[1].kind == Kind::Capacitor);
-        assert!(rt; elements[1].value.get() == 100_000);
-        assert!(rt; elements[2].kind == Kind::Resistor);
-        assert!(rt; elements[2].value.get() == 600);
+        assert_eq!(rt; elements.len(), 3);
+        assert_eq!(rt; elements[0].name.place, 12);
+        assert_eq!(rt; elements[1].name.place, 24);
+        assert_eq!(rt; elements[2].name.place, 36);
+        assert_eq!(rt; elements[2].name.len, 2);
+        assert_eq!(rt; elements[0].kind, Kind::Coil);
+        assert_eq!(rt; elements[0].value.get(), 100_000);
+        assert_eq!(rt; elements[1].kind, Kind::Capacitor);
+        assert_eq!(rt; elements[1].value.get(), 100_000);
+        assert_eq!(rt; elements[2].kind, Kind::Resistor);
+        assert_eq!(rt; elements[2].value.get(), 600);
         Ok(())
     }
 
@@ -47,18 +41,18 @@ mod tests {
     fn nodes_are_numbered_by_first_appearance(rt: HostRuntime) -> Result<(), Fail> {
         let listing = accepted(DOOR)?;
         let nodes = listing.nodes.as_slice();
-        assert!(rt; nodes.len() == 3);
-        assert!(rt; nodes[0].name.place == 8);
-        assert!(rt; nodes[1].name.place == 10);
-        assert!(rt; nodes[2].name.place == 17);
-        assert!(rt; listing.port.ends.from.index == 0);
-        assert!(rt; listing.port.ends.to.index == 1);
+        assert_eq!(rt; nodes.len(), 3);
+        assert_eq!(rt; nodes[0].name.place, 8);
+        assert_eq!(rt; nodes[1].name.place, 10);
+        assert_eq!(rt; nodes[2].name.place, 17);
+        assert_eq!(rt; listing.port.ends.from.index, 0);
+        assert_eq!(rt; listing.port.ends.to.index, 1);
         let elements = listing.elements.as_slice();
-        assert!(rt; elements.len() == 3);
-        assert!(rt; elements[0].ends.from.index == 0);
-        assert!(rt; elements[0].ends.to.index == 2);
-        assert!(rt; elements[1].ends.from.index == 2);
-        assert!(rt; elements[1].ends.to.index == 1);
+        assert_eq!(rt; elements.len(), 3);
+        assert_eq!(rt; elements[0].ends.from.index, 0);
+        assert_eq!(rt; elements[0].ends.to.index, 2);
+        assert_eq!(rt; elements[1].ends.from.index, 2);
+        assert_eq!(rt; elements[1].ends.to.index, 1);
         Ok(())
     }
 
@@ -66,10 +60,10 @@ mod tests {
     fn refusals_have_layer_number_and_place(rt: HostRuntime) -> Result<(), Fail> {
         let fault = refused(b"door\nV1 a 0\nR1 b B 600\n.end\n")?;
         let told = fault.told();
-        assert!(rt; told.layer == 1);
-        assert!(rt; told.number == 10);
-        assert!(rt; told.place == 17);
-        assert!(rt; refused(b"")?.told().number == 1);
+        assert_eq!(rt; told.layer, 1);
+        assert_eq!(rt; told.number, 10);
+        assert_eq!(rt; told.place, 17);
+        assert_eq!(rt; refused(b"")?.told().number, 1);
         Ok(())
     }
 }
