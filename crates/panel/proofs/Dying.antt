@@ -24,13 +24,8 @@ module _ {C : Type 0} (closings : ClosingOf C) (heard : HeardAbsorbs) where
   one : (a : Rig ListingTree C) (x : Event) (b : Rig ListingTree C) → Step tree_port closings a x b
       → of_round (λ y. sounds y.heard) x ≤ of_round (λ y. min 1 (y.shortened + y.absorbed)) x
   one a (feed e (Ok x)) b h = rounded a _ x b h.2.round
-  one a (feed e (Err y)) b h = omega arith
-  one a (raise o) b h = omega arith
   one a (answer w f (Ok x)) b h = rounded a f x b h.2
-  one a (answer w f (Err y)) b h = omega arith
-  one a (withdraw w o) b h = omega arith
-  one a (clear o) b h = omega arith
-  one a (turn o) b h = omega arith
+  one a other b h = omega arith
 
   busy_heard : {a z : Rig ListingTree C} {xs : List Event} → Run tree_port closings a xs z → sounding xs ≤ busy xs
   busy_heard done = omega arith

@@ -1,5 +1,5 @@
 -- Rounding never makes energy: one call, and then any list of calls.
-use Rattle.std.proofs.Common.{◌≡◌, ℕ, ◌+◌, ◌*◌, List, [], ◌∷◌, ℤ, pos, ◌+ℤ◌, Ok, Err, refl, ap, ◌∙◌, subst, subst₂, add-zero, zero-add, arith}
+use Rattle.std.proofs.Common.{◌≡◌, ℕ, ◌+◌, ◌*◌, List, [], ◌∷◌, ℤ, pos, ◌+ℤ◌, Ok, refl, ap, ◌∙◌, subst, subst₂, add-zero, zero-add, arith}
 use Rattle.std.proofs.lemmas.Int.{ints}
 use Rattle.wave.specs.Numbers.{sq, held}
 use Rattle.wave.proofs.Losses.{held_same}
@@ -90,17 +90,12 @@ module _ {P C : Type 0} (ports : PortOf P) (laws : Laws ports.reads ports.takes 
   pub moved : (a : Rig P C) (x : Event) (b : Rig P C) → Step ports closings a x b
       → Moved a (fell x) (rose x) (of_round (λ y. y.absorbed) x + of_clear (λ D. D) x) (of_round (λ y. y.shortened) x) b
   moved a (feed e (Ok x)) b h = rounded a _ x b h.2.round
-  moved a (feed e (Err y)) b h = refused a b h.0
   moved a (raise (Ok w)) b h = idle a b h.2.port h.2.closing
-  moved a (raise (Err y)) b h = refused a b h.0
   moved a (answer w f (Ok x)) b h = rounded a f x b h.2
-  moved a (answer w f (Err y)) b h = refused a b h.0
   moved a (withdraw w (Ok u)) b h = idle a b h.2.port h.2.closing
-  moved a (withdraw w (Err y)) b h = refused a b h.0
   moved a (clear (Ok D)) b h = emptied a D b h.1
-  moved a (clear (Err y)) b h = refused a b h.0
   moved a (turn (Ok p)) b h = idle a b h.1.port h.1.closing
-  moved a (turn (Err y)) b h = refused a b h.0
+  moved a refusal b h = refused a b h.0
 
   pub whole : {a z : Rig P C} {xs : List Event} → Run ports closings a xs z
       → Moved a (fallen xs) (risen xs) (absorbed xs + dropped xs) (shortened xs) z

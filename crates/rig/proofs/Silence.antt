@@ -1,5 +1,5 @@
 -- Over a bounded closing: the energy stays within the offers, and in silence the filter runs down.
-use Rattle.std.proofs.Common.{◌≡◌, ℕ, ◌+◌, ◌*◌, ◌≤◌, min, List, ℤ, pos, Ok, Err, sym, refl, subst, subst₂, mul-add, arith}
+use Rattle.std.proofs.Common.{◌≡◌, ℕ, ◌+◌, ◌*◌, ◌≤◌, min, List, ℤ, pos, Ok, sym, refl, subst, subst₂, mul-add, arith}
 use Rattle.wave.specs.Numbers.{sq, held}
 use Rattle.wave.proofs.Losses.{held_same}
 use Rattle.port.specs.declared.meaning.Port.{Ghosts as PortOf}
@@ -8,7 +8,7 @@ use Rattle.port.specs.Meaning.{Laws}
 use Rattle.closing.specs.Meaning.{Bounded}
 use Rattle.rig.specs.Steps.{Closed}
 use Rattle.rig.specs.Runs.{Event, Run, Step, All, Feeds, of_round, of_clear, of_feed, sum, busy}
-use Rattle.rig.specs.Runs.Event.{feed, raise, answer, withdraw, clear, turn}
+use Rattle.rig.specs.Runs.Event.{feed, answer}
 use Rattle.rig.specs.Runs.Run.{done, next}
 use Rattle.rig.specs.Energy.{StaysWithinOffers, RunsDown}
 use Rattle.rig.specs.declared.pages.Round.{Round}
@@ -18,13 +18,8 @@ use Rattle.rig.proofs.Runs.{rose, fell, risen, fallen, moved, whole}
 
 busy_is : (x : Event) → of_round (λ y. min 1 (y.shortened + y.absorbed)) x ≤ min 1 (of_round (λ y. y.shortened) x + of_round (λ y. y.absorbed) x)
 busy_is (feed e (Ok x)) = omega arith
-busy_is (feed e (Err y)) = omega arith
-busy_is (raise o) = omega arith
 busy_is (answer w f (Ok x)) = omega arith
-busy_is (answer w f (Err y)) = omega arith
-busy_is (withdraw w o) = omega arith
-busy_is (clear o) = omega arith
-busy_is (turn o) = omega arith
+busy_is other = omega arith
 
 module _ {P C : Type 0} (ports : PortOf P) (laws : Laws ports.reads ports.takes ports.clears)
     (closings : ClosingOf C) (offers : C → ℤ → ℕ) (bound : Bounded closings.answers offers) where
@@ -40,13 +35,8 @@ module _ {P C : Type 0} (ports : PortOf P) (laws : Laws ports.reads ports.takes 
   offer_step : (Q : ℤ → Type 0) (a : Rig P C) (x : Event) (b : Rig P C) → Step ports closings a x b → Feeds Q x
       → (ports.reads a.port).num * fell x ≤ (ports.reads a.port).num * rose x + (ports.reads a.port).den * of_feed (offers a.closing) x
   offer_step Q a (feed e (Ok x)) b h k = fed a e x b h.2
-  offer_step Q a (feed e (Err y)) b h k = omega arith
-  offer_step Q a (raise o) b h k = omega arith
   offer_step Q a (answer w f (Ok x)) b h k = absurd k
-  offer_step Q a (answer w f (Err y)) b h k = omega arith
-  offer_step Q a (withdraw w o) b h k = omega arith
-  offer_step Q a (clear o) b h k = omega arith
-  offer_step Q a (turn o) b h k = omega arith
+  offer_step Q a other b h k = omega arith
 
   offer_run : {a z : Rig P C} {xs : List Event} → Run ports closings a xs z → All (Feeds (λ e. Unit {0})) xs
       → (ports.reads a.port).num * fallen xs ≤ (ports.reads a.port).num * risen xs + (ports.reads a.port).den * sum (of_feed (offers a.closing)) xs
@@ -67,12 +57,7 @@ module _ {P C : Type 0} (ports : PortOf P) (laws : Laws ports.reads ports.takes 
   -- a silent event offers nothing
   silent_offer : (t : C) (x : Event) → Feeds (λ e. e ≡ pos 0) x → of_feed (offers t) x ≡ 0
   silent_offer t (feed e (Ok x)) k = subst (λ (z : ℤ). offers t z ≡ 0) (sym k) (bound.silent t)
-  silent_offer t (feed e (Err y)) k = refl
-  silent_offer t (raise o) k = refl
-  silent_offer t (answer w f o) k = refl
-  silent_offer t (withdraw w o) k = refl
-  silent_offer t (clear o) k = refl
-  silent_offer t (turn o) k = refl
+  silent_offer t other k = refl
 
   silent_step : (a : Rig P C) (x : Event) (b : Rig P C) → Step ports closings a x b → Feeds (λ e. e ≡ pos 0) x
       → of_round (λ y. min 1 (y.shortened + y.absorbed)) x + (ports.reads b.port).stored ≤ (ports.reads a.port).stored

@@ -1,6 +1,7 @@
 -- The page tells the truth.
-use Rattle.std.proofs.Common.{◌≡◌, ℕ, ◌+◌, List, [], ◌∷◌, ℤ, pos, ◌+ℤ◌, ◌-ℤ◌, Ok, Err, sym, refl, ap, ◌∙◌, subst, arith}
-use lib.IntN.{+ℤ_idl, +ℤ_idr, +ℤ_assoc}
+use Rattle.std.proofs.Common.{◌≡◌, ℕ, ◌+◌, List, [], ◌∷◌, ℤ, pos, ◌+ℤ◌, ◌-ℤ◌, Ok, sym, refl, ap, ◌∙◌, subst, arith}
+use lib.IntN.{+ℤ_idr}
+use Rattle.std.proofs.lemmas.Int.{ints}
 use Rattle.wave.specs.Numbers.{sq}
 use Rattle.port.specs.declared.meaning.Port.{Ghosts as PortOf}
 use Rattle.closing.specs.declared.meaning.Closing.{Ghosts as ClosingOf}
@@ -14,7 +15,7 @@ use Rattle.rig.specs.Energy.{Begins, Tells, PagesTellTheTruth}
 use Rattle.rig.specs.declared.pages.Round.{Round}
 use Rattle.rig.specs.declared.parts.Rig.{Rig}
 use Rattle.rig.specs.declared.parts.Tally.{Tally}
-use Rattle.rig.proofs.Runs.{rose, fell, whole, never_makes_energy}
+use Rattle.rig.proofs.Runs.{whole, never_makes_energy}
 
 -- q is p and the calls ys
 record Added (p : Tally) (ys : List Event) (q : Tally) : Type 0 where
@@ -26,7 +27,7 @@ record Added (p : Tally) (ys : List Event) (q : Tally) : Type 0 where
   swings : q.swing ≡ p.swing +ℤ swing ys
 
 none : (p : Tally) → Added p [] p
-none p = record { entered = omega arith; start = refl; absorbs = omega arith; drops = omega arith; shortens = omega arith; swings = sym (+ℤ_idr p.swing) }
+none p = record { entered = omega arith; start = refl; absorbs = omega arith; drops = omega arith; shortens = omega arith; swings = omega (arith, ints) }
 
 same : (p q : Tally) → q ≡ p → (x : Event) → entries (x ∷ []) ≡ 0 → absorbed (x ∷ []) ≡ 0 → dropped (x ∷ []) ≡ 0 → shortened (x ∷ []) ≡ 0 → swing (x ∷ []) ≡ pos 0
     → Added p (x ∷ []) q
@@ -36,7 +37,7 @@ same p q e x n A D c w = record {
   absorbs = ap (λ (t : Tally). t.absorbed) e ∙ omega (arith, A);
   drops = ap (λ (t : Tally). t.dropped) e ∙ omega (arith, D);
   shortens = ap (λ (t : Tally). t.shortened) e ∙ omega (arith, c);
-  swings = ap (λ (t : Tally). t.swing) e ∙ sym (ap (λ z. p.swing +ℤ z) w ∙ +ℤ_idr p.swing);
+  swings = ap (λ (t : Tally). t.swing) e ∙ omega (arith, ints, w);
 }
 
 entry : (p q : Tally) (r f : ℤ) (A c D : ℕ) (x : Event) → Entered p r f A c D q → entries (x ∷ []) ≡ 1 → absorbed (x ∷ []) ≡ A → dropped (x ∷ []) ≡ D
@@ -47,11 +48,8 @@ entry p q r f A c D x h n eA eD ec ew = record {
   absorbs = omega (arith, h.absorbed, eA);
   drops = omega (arith, h.dropped, eD);
   shortens = omega (arith, h.shortened, ec);
-  swings = h.swing ∙ ap (λ w. p.swing +ℤ w) (sym ew);
+  swings = omega (arith, ints, h.swing, ew);
 }
-
-swings_on : (u v w s t : ℤ) → u ≡ v +ℤ (s +ℤ pos 0) → w ≡ u +ℤ t → w ≡ v +ℤ (s +ℤ t)
-swings_on u v w s t a b = b ∙ ap (λ z. z +ℤ t) (a ∙ ap (λ z. v +ℤ z) (+ℤ_idr s)) ∙ +ℤ_assoc v s t
 
 more : (p q r : Tally) (x : Event) (ys : List Event) → Added p (x ∷ []) q → Added q ys r → Added p (x ∷ ys) r
 more p q r x ys a b = record {
@@ -60,7 +58,7 @@ more p q r x ys a b = record {
   absorbs = omega (arith, a.absorbs, b.absorbs);
   drops = omega (arith, a.drops, b.drops);
   shortens = omega (arith, a.shortens, b.shortens);
-  swings = swings_on q.swing p.swing r.swing (pos (fell x) -ℤ pos (rose x)) (swing ys) a.swings b.swings;
+  swings = omega (arith, ints, a.swings, b.swings);
 }
 
 module _ {P C : Type 0} (ports : PortOf P) (closings : ClosingOf C) where
@@ -73,17 +71,12 @@ module _ {P C : Type 0} (ports : PortOf P) (closings : ClosingOf C) where
 
   adds : (a : Rig P C) (x : Event) (b : Rig P C) → Step ports closings a x b → (Turns x → ⊥) → Added a.tally (x ∷ []) b.tally
   adds a (feed e (Ok x)) b h t = round_adds a _ x b (feed e (Ok x)) h.2.round (refl) (omega arith) refl (omega arith) (+ℤ_idr _)
-  adds a (feed e (Err y)) b h t = same _ _ (tally_is a b h.0) (feed e (Err y)) refl refl refl refl refl
   adds a (raise (Ok w)) b h t = same _ _ h.2.tally (raise (Ok w)) refl refl refl refl refl
-  adds a (raise (Err y)) b h t = same _ _ (tally_is a b h.0) (raise (Err y)) refl refl refl refl refl
   adds a (answer w f (Ok x)) b h t = round_adds a f x b (answer w f (Ok x)) h.2 (refl) (omega arith) refl (omega arith) (+ℤ_idr _)
-  adds a (answer w f (Err y)) b h t = same _ _ (tally_is a b h.0) (answer w f (Err y)) refl refl refl refl refl
   adds a (withdraw w (Ok u)) b h t = same _ _ h.2.tally (withdraw w (Ok u)) refl refl refl refl refl
-  adds a (withdraw w (Err y)) b h t = same _ _ (tally_is a b h.0) (withdraw w (Err y)) refl refl refl refl refl
   adds a (clear (Ok D)) b h t = entry _ _ _ _ _ _ _ (clear (Ok D)) h.1.tally refl refl (omega arith) refl refl
-  adds a (clear (Err y)) b h t = same _ _ (tally_is a b h.0) (clear (Err y)) refl refl refl refl refl
   adds a (turn (Ok p)) b h t = absurd (t tt)
-  adds a (turn (Err y)) b h t = same _ _ (tally_is a b h.0) (turn (Err y)) refl refl refl refl refl
+  adds a refusal b h t = same _ _ (tally_is a b h.0) refusal refl refl refl refl refl
 
   stretch : {b z : Rig P C} {ys : List Event} → Run ports closings b ys z → All (λ x. Turns x → ⊥) ys → Added b.tally ys z.tally
   stretch done k = none _
@@ -93,13 +86,8 @@ module _ {P C : Type 0} (ports : PortOf P) (closings : ClosingOf C) where
   Begun a = Fresh (ports.reads a.port).stored a.tally
 
   turned : (a : Rig P C) (x : Event) (b : Rig P C) → Step ports closings a x b → Turns x → Begun b
-  turned a (feed e o) b h t = absurd t
-  turned a (raise o) b h t = absurd t
-  turned a (answer w f o) b h t = absurd t
-  turned a (withdraw w o) b h t = absurd t
-  turned a (clear o) b h t = absurd t
   turned a (turn (Ok p)) b h t = subst (λ (x : P). Fresh (ports.reads x).stored b.tally) (sym h.1.port) h.1.tally
-  turned a (turn (Err y)) b h t = absurd t
+  turned a other b h t = absurd t
 
   last_turned : {a b : Rig P C} {x : Event} {xs : List Event} → Run ports closings a (x ∷ xs) b → Begins (x ∷ xs) → Begun b
   last_turned (next {a = a} {b = b} x s done) k = turned a x b s k
@@ -123,6 +111,6 @@ module _ {P C : Type 0} (ports : PortOf P) (laws : Laws ports.reads ports.takes 
         absorbed = omega (arith, A.absorbs, B.absorbed);
         dropped = omega (arith, A.drops, B.dropped);
         shortened = omega (arith, A.shortens, B.shortened);
-        swing = A.swings ∙ ap (λ w. w +ℤ swing ys) B.swing ∙ +ℤ_idl (swing ys);
+        swing = omega (arith, ints, A.swings, B.swing);
       } in
       (t, simp (M.num, M.den, t.start, t.absorbed, t.dropped, t.shortened, t.swing) (never_makes_energy ports laws closings b ys z q))

@@ -9,7 +9,7 @@ use Rattle.rig.specs.Runs.Event.{feed}
 use Rattle.rig.specs.declared.pages.Round.{Round}
 use Rattle.rig.specs.declared.parts.Rig.{Rig}
 use Rattle.rig.specs.declared.refusals.Refusal.{Refusal}
-use Rattle.rig.specs.declared.refusals.Refusal.TheVariants.{Beyond, WaveOpen, Misfit, PageFull, BlockLength}
+use Rattle.rig.specs.declared.refusals.Refusal.TheVariants.{WaveOpen, PageFull, BlockLength}
 
 -- what the samples of some bytes are fed as
 abbrev pub waves_of : List ℕ → List ℤ
@@ -31,12 +31,11 @@ feeds (e ∷ es) (x ∷ xs) = feed e (Ok x) ∷ feeds es xs
 module _ {P C : Type 0} where
   -- why a block from `input` into `output` is refused
   abbrev pub Unblocked : Rig P C → List ℕ → List ℕ → Refusal → Type 0
-  Unblocked a input output Beyond = ⊥
   Unblocked a input output WaveOpen = a.raised ≡ true
-  Unblocked a input output Misfit = ⊥
   Unblocked a input output PageFull = (a.raised ≡ false) × (page_length < a.tally.entries + length input / 2)
   Unblocked a input output BlockLength =
       (a.raised ≡ false) × (a.tally.entries + length input / 2 ≤ page_length) × ((length input % 2 ≡ 1) ⊎ (length output < length input))
+  Unblocked a input output other = ⊥
 
   -- why it is not
   abbrev pub Blockable : Rig P C → List ℕ → List ℕ → Type 0

@@ -1,5 +1,5 @@
 -- Any list of calls of a rig, and the sums over what they answered.
-use Rattle.std.specs.Prelude.{ℕ, ◌+◌, min, List, [], ◌∷◌, ℤ, pos, ◌+ℤ◌, ◌-ℤ◌, Ok, Err, Result}
+use Rattle.std.specs.Prelude.{ℕ, ◌+◌, min, List, [], ◌∷◌, ℤ, pos, ◌+ℤ◌, ◌-ℤ◌, Ok, Result}
 use Rattle.wave.specs.Numbers.{sq}
 use Rattle.port.specs.declared.meaning.Port.{Ghosts as PortOf}
 use Rattle.closing.specs.declared.meaning.Closing.{Ghosts as ClosingOf}
@@ -23,54 +23,29 @@ pub data Event : Type 0 where
 -- g of the round, where the event is an accepted round; else 0
 abbrev pub of_round : (Round → ℕ) → Event → ℕ
 of_round g (feed e (Ok x)) = g x
-of_round g (feed e (Err y)) = 0
-of_round g (raise o) = 0
 of_round g (answer w f (Ok x)) = g x
-of_round g (answer w f (Err y)) = 0
-of_round g (withdraw w o) = 0
-of_round g (clear o) = 0
-of_round g (turn o) = 0
+of_round g other = 0
 
 -- g of the dropped energy, where the event is an accepted clear; else 0
 abbrev pub of_clear : (ℕ → ℕ) → Event → ℕ
-of_clear g (feed e o) = 0
-of_clear g (raise o) = 0
-of_clear g (answer w f o) = 0
-of_clear g (withdraw w o) = 0
 of_clear g (clear (Ok D)) = g D
-of_clear g (clear (Err y)) = 0
-of_clear g (turn o) = 0
+of_clear g other = 0
 
 -- g of the sample, where the event is an accepted feed; else 0
 abbrev pub of_feed : (ℤ → ℕ) → Event → ℕ
 of_feed g (feed e (Ok x)) = g e
-of_feed g (feed e (Err y)) = 0
-of_feed g (raise o) = 0
-of_feed g (answer w f o) = 0
-of_feed g (withdraw w o) = 0
-of_feed g (clear o) = 0
-of_feed g (turn o) = 0
+of_feed g other = 0
 
 -- if the event is an accepted round, then a feed of a sample of which Q holds
 abbrev pub Feeds : (ℤ → Type 0) → Event → Type 0
 Feeds Q (feed e (Ok x)) = Q e
-Feeds Q (feed e (Err y)) = Unit {0}
-Feeds Q (raise o) = Unit {0}
 Feeds Q (answer w f (Ok x)) = ⊥
-Feeds Q (answer w f (Err y)) = Unit {0}
-Feeds Q (withdraw w o) = Unit {0}
-Feeds Q (clear o) = Unit {0}
-Feeds Q (turn o) = Unit {0}
+Feeds Q other = Unit {0}
 
 -- the event is an accepted turn
 abbrev pub Turns : Event → Type 0
-Turns (feed e o) = ⊥
-Turns (raise o) = ⊥
-Turns (answer w f o) = ⊥
-Turns (withdraw w o) = ⊥
-Turns (clear o) = ⊥
 Turns (turn (Ok p)) = Unit {0}
-Turns (turn (Err y)) = ⊥
+Turns other = ⊥
 
 abbrev pub sum : (Event → ℕ) → List Event → ℕ
 sum g [] = 0

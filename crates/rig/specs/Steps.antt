@@ -13,7 +13,7 @@ use Rattle.rig.specs.declared.handed.HandedBack.{HandedBack}
 use Rattle.rig.specs.declared.parts.OpenWave.{OpenWave}
 use Rattle.rig.specs.declared.parts.Rig.{Rig}
 use Rattle.rig.specs.declared.refusals.Refusal.{Refusal}
-use Rattle.rig.specs.declared.refusals.Refusal.TheVariants.{Beyond, WaveOpen, Misfit, PageFull, BlockLength}
+use Rattle.rig.specs.declared.refusals.Refusal.TheVariants.{Beyond, WaveOpen, Misfit, PageFull}
 
 module _ {P C : Type 0} where
   -- a and b differ at most in whether a wave is open
@@ -29,27 +29,21 @@ module _ {P C : Type 0} where
 
   -- why a call is refused that asks for that
   abbrev pub Unready : Rig P C → Refusal → Type 0
-  Unready a Beyond = ⊥
   Unready a WaveOpen = a.raised ≡ true
-  Unready a Misfit = ⊥
   Unready a PageFull = (a.raised ≡ false) × (page_length ≤ a.tally.entries)
-  Unready a BlockLength = ⊥
+  Unready a other = ⊥
 
   -- why a feed of e is refused
   abbrev pub Unfed : Rig P C → ℤ → Refusal → Type 0
   Unfed a e Beyond = largest_wave < unsigned_abs e
   Unfed a e WaveOpen = (unsigned_abs e ≤ largest_wave) × Unready a WaveOpen
-  Unfed a e Misfit = ⊥
   Unfed a e PageFull = (unsigned_abs e ≤ largest_wave) × Unready a PageFull
-  Unfed a e BlockLength = ⊥
+  Unfed a e other = ⊥
 
   -- why a turn is refused
   abbrev pub Unturned : Rig P C → Refusal → Type 0
-  Unturned a Beyond = ⊥
   Unturned a WaveOpen = a.raised ≡ true
-  Unturned a Misfit = ⊥
-  Unturned a PageFull = ⊥
-  Unturned a BlockLength = ⊥
+  Unturned a other = ⊥
 
 module _ {P C : Type 0} (ports : PortOf P) where
   -- the open wave w fits a rig that has a wave open, and whose number and rising wave are its own
@@ -59,18 +53,13 @@ module _ {P C : Type 0} (ports : PortOf P) where
   -- why an answer f to w is refused
   abbrev pub Unanswered : Rig P C → OpenWave → ℤ → Refusal → Type 0
   Unanswered a w f Beyond = largest_wave < unsigned_abs f
-  Unanswered a w f WaveOpen = ⊥
   Unanswered a w f Misfit = (unsigned_abs f ≤ largest_wave) × (Fits a w → ⊥)
-  Unanswered a w f PageFull = ⊥
-  Unanswered a w f BlockLength = ⊥
+  Unanswered a w f other = ⊥
 
   -- why a withdrawal of w is refused
   abbrev pub Unwithdrawn : Rig P C → OpenWave → Refusal → Type 0
-  Unwithdrawn a w Beyond = ⊥
-  Unwithdrawn a w WaveOpen = ⊥
   Unwithdrawn a w Misfit = Fits a w → ⊥
-  Unwithdrawn a w PageFull = ⊥
-  Unwithdrawn a w BlockLength = ⊥
+  Unwithdrawn a w other = ⊥
 
   abbrev pub Raised : Rig P C → Result OpenWave Refusal → Rig P C → Type 0
   Raised a (Ok w) b = Ready a × Fits b w × Kept a b

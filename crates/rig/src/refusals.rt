@@ -3,7 +3,7 @@ ghost use Rattle.rig.specs.Refusals.{row};
 use told::{Tells, Told};
 
 /// Why a call of a rig is refused.
-#[derive(Clone, Copy, Debug, PartialEq)]
+#[derive(Clone, Copy, Debug, PartialEq, Eq)]
 pub enum Refusal {
     /// The sample or the falling wave is beyond the largest wave.
     Beyond,

@@ -1,9 +1,10 @@
 -- Sums over one list of calls and then another, and over one round of a session.
-use Rattle.std.proofs.Common.{◌≡◌, ℕ, ◌+◌, min, List, [], ◌∷◌, ◌++◌, ℤ, pos, ◌+ℤ◌, ◌-ℤ◌, Some, None, Ok, Err, Option, sym, refl, ap, ◌∙◌, arith}
-use lib.IntN.{+ℤ_idl, +ℤ_idr, +ℤ_assoc}
+use Rattle.std.proofs.Common.{◌≡◌, ℕ, ◌+◌, min, List, [], ◌∷◌, ◌++◌, ℤ, pos, ◌+ℤ◌, ◌-ℤ◌, Some, None, Ok, Option, refl, ap, arith}
+use lib.IntN.{+ℤ_idr}
+use Rattle.std.proofs.lemmas.Int.{ints}
 use Rattle.wave.specs.Numbers.{sq}
 use Rattle.rig.specs.Runs.{Event, All, Feeds, sum, entries, absorbed, dropped, shortened, swing, busy}
-use Rattle.rig.specs.Runs.Event.{feed, raise, answer, withdraw, clear, turn}
+use Rattle.rig.specs.Runs.Event.{feed, clear}
 use Rattle.rig.specs.declared.pages.Page.{Page}
 use Rattle.rig.specs.declared.pages.Round.{Round}
 use Rattle.session.specs.Sessions.{turns, fed}
@@ -12,22 +13,14 @@ pub sum-++ : (g : Event → ℕ) (xs ys : List Event) → sum g (xs ++ ys) ≡ s
 sum-++ g [] ys = omega arith
 sum-++ g (x ∷ xs) ys = omega (arith, sum-++ g xs ys)
 
-regroup : (a b c d : ℤ) → d ≡ b +ℤ c → a +ℤ d ≡ a +ℤ b +ℤ c
-regroup a b c d e = ap (λ t. a +ℤ t) e ∙ sym (+ℤ_assoc a b c)
-
 pub swing-++ : (xs ys : List Event) → swing (xs ++ ys) ≡ swing xs +ℤ swing ys
-swing-++ [] ys = sym (+ℤ_idl (swing ys))
-swing-++ (x ∷ xs) ys = regroup _ (swing xs) (swing ys) (swing (xs ++ ys)) (swing-++ xs ys)
+swing-++ [] ys = omega (arith, ints)
+swing-++ (x ∷ xs) ys = omega (arith, ints, swing-++ xs ys)
 
 pub fed-++ : (xs ys : List Event) → fed (xs ++ ys) ≡ fed xs ++ fed ys
 fed-++ [] ys = refl
 fed-++ (feed e (Ok x) ∷ xs) ys = ap (λ (l : List ℤ). e ∷ l) (fed-++ xs ys)
-fed-++ (feed e (Err y) ∷ xs) ys = fed-++ xs ys
-fed-++ (raise o ∷ xs) ys = fed-++ xs ys
-fed-++ (answer w f o ∷ xs) ys = fed-++ xs ys
-fed-++ (withdraw w o ∷ xs) ys = fed-++ xs ys
-fed-++ (clear o ∷ xs) ys = fed-++ xs ys
-fed-++ (turn o ∷ xs) ys = fed-++ xs ys
+fed-++ (other ∷ xs) ys = fed-++ xs ys
 
 pub all-++ : (Q : Event → Type 0) (xs ys : List Event) → All Q xs → All Q ys → All Q (xs ++ ys)
 all-++ Q [] ys h k = k

@@ -6,7 +6,7 @@ use Rattle.closing.specs.declared.meaning.Closing.{Ghosts as ClosingOf}
 use Rattle.rig.specs.Limits.{page_length}
 use Rattle.rig.specs.Steps.{Renewed}
 use Rattle.rig.specs.Runs.{Event, Run}
-use Rattle.rig.specs.Runs.Event.{feed, raise, answer, withdraw, clear, turn}
+use Rattle.rig.specs.Runs.Event.{feed, clear, turn}
 use Rattle.rig.specs.declared.pages.Page.{Page}
 use Rattle.rig.specs.declared.parts.Rig.{Rig}
 use Rattle.rig.specs.declared.refusals.Refusal.{Refusal}
@@ -22,12 +22,7 @@ turns (Some p) = turn (Ok p) ∷ []
 abbrev pub fed : List Event → List ℤ
 fed [] = []
 fed (feed e (Ok x) ∷ xs) = e ∷ fed xs
-fed (feed e (Err y) ∷ xs) = fed xs
-fed (raise o ∷ xs) = fed xs
-fed (answer w f o ∷ xs) = fed xs
-fed (withdraw w o ∷ xs) = fed xs
-fed (clear o ∷ xs) = fed xs
-fed (turn o ∷ xs) = fed xs
+fed (other ∷ xs) = fed xs
 
 -- there is a page exactly if a had one entry left
 abbrev pub Fills : {P C : Type 0} → Rig P C → Option Page → Type 0
