@@ -49,8 +49,7 @@ fn way_of(way: Way) -> &'static str {
 }
 
 pub fn print_tree(rt: &HostRuntime, text: &[u8], tree: &ListingTree) -> anyhow::Result<()> {
-    let mut steps = Vec::new(rt.alloc());
-    tree.shape(&mut steps)?;
+    let steps = tree.shape(rt.alloc())?;
     print!(rt; "tree     ")?;
     for step in steps.iter() {
         match *step {

@@ -1,4 +1,3 @@
 pub mod Caches
 pub mod Growing
 pub mod Heard
-pub mod Reading

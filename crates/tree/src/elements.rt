@@ -24,12 +24,9 @@ impl Element {
     pub(crate) fn built_in() -> Element
         ensures { BuiltIn result }
     {
-        match Resistor::new(1, false) {
-            Ok(r) => Element {
-                index: 0,
-                body: Body::Resist(r),
-            },
-            Err(_) => unreachable(),
+        Element {
+            index: 0,
+            body: Body::Resist(Resistor::new(1, false).unwrap()),
         }
     }
 }
@@ -56,7 +53,7 @@ impl Port for Element {
 
     fn ears(&self) -> u32 {
         match &self.body {
-            Body::Store(_) => 0,
+            Body::Store(c) => c.ears(),
             Body::Resist(r) => r.ears(),
         }
     }
@@ -64,41 +61,28 @@ impl Port for Element {
     fn rising(&self) -> Wave {
         match &self.body {
             Body::Store(c) => c.rising(),
-            Body::Resist(_) => Wave::ZERO,
+            Body::Resist(r) => r.rising(),
         }
     }
 
     fn stored(&self) -> u64 {
         match &self.body {
             Body::Store(c) => c.stored(),
-            Body::Resist(_) => 0,
+            Body::Resist(r) => r.stored(),
         }
     }
 
     fn take(&mut self, f: i32) -> Taken {
-        match self.body {
-            Body::Store(kept) => {
-                let mut after = kept;
-                let taken = after.take(f);
-                self.body = Body::Store(after);
-                taken
-            }
-            Body::Resist(kept) => {
-                let mut r = kept;
-                r.take(f)
-            }
+        match &mut self.body {
+            Body::Store(c) => c.take(f),
+            Body::Resist(r) => r.take(f),
         }
     }
 
     fn clear(&mut self) -> u64 {
-        match self.body {
-            Body::Store(kept) => {
-                let mut c = kept;
-                let dropped = c.clear();
-                self.body = Body::Store(c);
-                dropped
-            }
-            Body::Resist(_) => 0,
+        match &mut self.body {
+            Body::Store(c) => c.clear(),
+            Body::Resist(r) => r.clear(),
         }
     }
 }

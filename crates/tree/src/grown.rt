@@ -12,7 +12,7 @@ use adaptor::{JoinRefusal, Joint, Way};
 use port::{Part, Port};
 
 /// Why two trees are not joined.
-#[derive(Clone, Copy)]
+#[derive(Clone, Copy, Debug, PartialEq)]
 pub enum Refusal {
     /// Fewer than two boxes are left in the room.
     NoRoom,

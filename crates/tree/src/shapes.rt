@@ -1,4 +1,4 @@
-ghost use Rattle.std.specs.Prelude.{◌≡◌, [], ◌∷◌, ◌++◌, OnOk};
+ghost use Rattle.std.specs.Prelude.{◌≡◌, ◌++◌, IfOk, OnOk};
 ghost use Rattle.tree.specs.Trees.{model};
 ghost use Rattle.tree.specs.Shapes.{steps};
 
@@ -6,7 +6,7 @@ use crate::elements::Element;
 use crate::listed::ListingTree;
 use crate::trees::Tree;
 use adaptor::Way;
-use std::alloc::AllocError;
+use std::alloc::{AllocError, Global};
 
 /// A step of reading a tree from left to right: each join stands in brackets, its way between its two parts.
 #[derive(Clone, Copy)]
@@ -17,37 +17,31 @@ pub enum Step {
     End,
 }
 
-fn add(out: &mut Vec<Step>, step: Step) -> Result<(), AllocError>
-    ensures { OnOk result (out.new.items ≡ out.old.items ++ step ∷ []) }
-{
-    match out.push(step) {
-        Ok(()) => Ok(()),
-        Err(_) => Err(AllocError),
-    }
-}
-
 impl Tree {
     fn steps(&self, out: &mut Vec<Step>) -> Result<(), AllocError>
         ensures { OnOk result (out.new.items ≡ out.old.items ++ steps (model self.now)) }
     {
         match self {
-            Tree::Leaf(e) => add(out, Step::One(*e)),
+            Tree::Leaf(e) => out.push(Step::One(*e))?,
             Tree::Join(k, a, b) => {
-                add(out, Step::Begin)?;
+                out.push(Step::Begin)?;
                 a.steps(out)?;
-                add(out, Step::By(k.joint.way()))?;
+                out.push(Step::By(k.joint.way()))?;
                 b.steps(out)?;
-                add(out, Step::End)
+                out.push(Step::End)?;
             }
         }
+        Ok(())
     }
 }
 
 impl ListingTree {
-    /// Adds the tree's steps to `out`: its elements as they are now, and how they are joined.
-    pub fn shape(&self, out: &mut Vec<Step>) -> Result<(), AllocError>
-        ensures { OnOk result (out.new.items ≡ out.old.items ++ steps (model self.now.tree)) }
+    /// The tree's steps: its elements as they are now, and how they are joined.
+    pub fn shape(&self, heap: Global) -> Result<Vec<Step>, AllocError>
+        ensures { IfOk result (λ v. v.items ≡ steps (model self.now.tree)) }
     {
-        self.tree.steps(out)
+        let mut out = Vec::new(heap);
+        self.tree.steps(&mut out)?;
+        Ok(out)
     }
 }

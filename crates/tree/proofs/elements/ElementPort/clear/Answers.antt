@@ -10,9 +10,9 @@ pub returns-in-Store : goal.returns-in-Store
 returns-in-Store c =
     let e = c.args.self.now in
     let is = sym c.in-Store.is in
-    let h = c.clear-dropped.ensures in
+    let h = c.clear.ensures in
     let R : Body → Element = λ b. record { index = e.index; body = b } in
     record {
-      after = ap R (ap Store (same_storage c.in-Store.kept _ (wave_of (pos 0)) h.kind h.weight h.state) ∙ ap body_cleared is);
+      after = ap R (ap Store (same_storage c.in-Store.c _ (wave_of (pos 0)) h.kind h.weight h.state) ∙ ap body_cleared is);
       dropped = h.dropped ∙ ap (λ b. (body_reads b).stored) is;
     }

@@ -13,9 +13,9 @@ returns-in-Store c =
     let e = c.args.self.now in
     let f = c.args.f in
     let is = sym c.in-Store.is in
-    let h = simp to_z-of_z at c.take-taken.ensures in
+    let h = simp to_z-of_z at c.take.ensures in
     let R : Body → Element = λ b. record { index = e.index; body = b } in
     record {
-      after = ap R (ap Store (same_storage c.in-Store.kept _ (wave_of f) h.kind h.weight h.state) ∙ ap (λ b. body_after b f) is);
-      answer = same_taken _ (body_answer (Store c.in-Store.kept) f) h.absorbed h.shortened h.heard ∙ ap (λ b. body_answer b f) is;
+      after = ap R (ap Store (same_storage c.in-Store.c _ (wave_of f) h.kind h.weight h.state) ∙ ap (λ b. body_after b f) is);
+      answer = same_taken _ (body_answer (Store c.in-Store.c) f) h.absorbed h.shortened h.heard ∙ ap (λ b. body_answer b f) is;
     }
