@@ -7,7 +7,6 @@ use Rattle.adaptor.specs.declared.joints.joint.Joint.{Joint}
 use Rattle.tree.specs.Elements.{body_reads, body_answer}
 use Rattle.tree.specs.Models.{Model, leaf, join, reads, fitted, to_left, to_right, answer}
 use Rattle.tree.specs.Ears.{body_ear, ear_weight, Pays, HeardAbsorbs}
-use Rattle.tree.specs.Trees.{model}
 use Rattle.tree.specs.declared.elements.Body.{Body}
 use Rattle.tree.specs.declared.elements.Body.TheVariants.{Store, Resist}
 use Rattle.tree.specs.Law.{fits_here, fits_left, fits_right, fall}
@@ -84,5 +83,5 @@ pays (join j a b) f h =
 
 pub heard_absorbs : HeardAbsorbs
 heard_absorbs s f t z h =
-    let R : Taken → Type 0 = λ u. Pays (model s.tree) u in
-    subst R (sym h.answer) (pays (model s.tree) f s.fits)
+    let R : Taken → Type 0 = λ u. Pays s.tree u in
+    subst R (sym h.answer) (pays s.tree f s.fits)

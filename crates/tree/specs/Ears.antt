@@ -3,7 +3,6 @@ use Rattle.std.specs.Prelude.{ℕ, ◌+◌, ◌*◌, ◌<◌, ◌≤◌, cond, �
 use Rattle.wave.specs.Numbers.{sq}
 use Rattle.port.specs.declared.takings.Taken.{Taken}
 use Rattle.tree.specs.Models.{Model, leaf, join, Took}
-use Rattle.tree.specs.Trees.{model}
 use Rattle.tree.specs.declared.elements.Body.{Body}
 use Rattle.tree.specs.declared.elements.Body.TheVariants.{Store, Resist}
 use Rattle.tree.specs.declared.listed.whole.ListingTree.{ListingTree}
@@ -23,4 +22,4 @@ pub record Pays (m : Model) (t : Taken) : Type 0 where
 
 -- whatever listing tree takes whatever wave
 abbrev pub HeardAbsorbs : Type 0
-HeardAbsorbs = (s : ListingTree) (f : ℤ) (t : Taken) (z : ListingTree) → Took (model s.tree) f t (model z.tree) → Pays (model s.tree) t
+HeardAbsorbs = (s : ListingTree) (f : ℤ) (t : Taken) (z : ListingTree) → Took s.tree f t z.tree → Pays s.tree t

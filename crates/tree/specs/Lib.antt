@@ -1,6 +1,8 @@
 pub mod Elements
 pub mod Models
+pub mod Codes
 pub mod Trees
+pub mod TreeFalls
 pub mod Growth
 pub mod Ears
 pub mod Shapes

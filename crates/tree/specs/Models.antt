@@ -13,6 +13,11 @@ pub data Model : Type 0 where
   leaf : Element → Model
   join : Joint → Model → Model → Model
 
+-- how many joints there are
+abbrev pub joined : Model → ℕ
+joined (leaf e) = 0
+joined (join j a b) = joined a + joined b + 1
+
 abbrev pub reads : Model → Readings
 reads (leaf e) = element_reads e
 reads (join j a b) = whole j (reads a) (reads b)

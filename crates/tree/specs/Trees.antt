@@ -1,21 +1,20 @@
--- The tree that the code holds: its model, and when the waves that its joints keep at hand are those that rise.
-use Rattle.std.specs.Prelude.{Bool, true, false, ◌&&◌, ℤ, pos, negsuc, ◌==◌}
-use Rattle.tree.specs.Models.{Model, leaf, join, reads}
-use Rattle.tree.specs.declared.trees.Tree.{Tree}
-use Rattle.tree.specs.declared.trees.Tree.TheVariants.{Leaf, Join'}
+-- What a node of the tree that the code holds is seen as, and what is true of each node: its joint was made for its two parts, and keeps at
+-- hand the waves that rise from them.
+use Rattle.std.specs.Prelude.{◌≡◌, true}
+use Rattle.tree.specs.Models.{Model, leaf, join, reads, fitted}
+use Rattle.tree.specs.declared.trees.Knot.{Knot}
+use Rattle.tree.specs.declared.trees.Node.{Node}
+use Rattle.tree.specs.declared.trees.Node.TheVariants.{Leaf, Join}
 
--- p and q are where the two boxes stand
-abbrev pub model : Tree → Model
+abbrev pub model : Node → Model
 model (Leaf e) = leaf e
-model (Join' k p a q b) = join k.joint (model a) (model b)
+model (Join k a b) = join k.joint a.value b.value
 
-abbrev pub same : ℤ → ℤ → Bool
-same (pos m) (pos n) = m == n
-same (pos m) (negsuc n) = false
-same (negsuc m) (pos n) = false
-same (negsuc m) (negsuc n) = m == n
+pub record HoldsAt (k : Knot) (a b : Model) : Type 0 where
+  pub fits : fitted (join k.joint a b) ≡ true
+  pub left : k.left.value ≡ (reads a).rising
+  pub right : k.right.value ≡ (reads b).rising
 
--- each joint keeps the waves that rise from its two parts
-abbrev pub cached : Tree → Bool
-cached (Leaf e) = true
-cached (Join' k p a q b) = same k.left.value (reads (model a)).rising && same k.right.value (reads (model b)).rising && (cached a && cached b)
+abbrev pub Holds : Node → Type 0
+Holds (Leaf e) = Unit {0}
+Holds (Join k a b) = HoldsAt k a.value b.value

@@ -1,13 +1,12 @@
 ghost use Rattle.std.specs.Prelude.{◌≡◌, ◌+◌, vec_len, MatchResult};
 ghost use Rattle.tree.specs.Models.{leaf};
-ghost use Rattle.tree.specs.Trees.{model};
 ghost use Rattle.tree.specs.Ears.{HeardAbsorbs};
 ghost use Rattle.tree.specs.Growth.{Grown, Ungrown, BuiltTree};
 
 use crate::elements::Element;
 use crate::listed::ListingTree;
 use crate::rooms::Room;
-use crate::trees::{Knot, Tree};
+use crate::trees::{Knot, Node, Tree};
 use adaptor::{JoinRefusal, Joint, Way};
 use port::{Part, Port};
 
@@ -31,17 +30,19 @@ pub struct Apart {
 impl ListingTree {
     /// The tree of one element.
     pub fn leaf(element: Element) -> ListingTree
-        ensures tree { model result.tree ≡ leaf element }
+        ensures tree { result.tree ≡ leaf element }
         ensures heard { HeardAbsorbs }
     {
         ListingTree {
-            tree: Tree::Leaf(element),
+            tree: Tree {
+                node: Node::Leaf(element),
+            },
         }
     }
 
     /// A tree to begin with: a resistor of weight 1 without an ear.
     pub fn built_in() -> ListingTree
-        ensures { BuiltTree (model result.tree) }
+        ensures { BuiltTree result.tree }
     {
         ListingTree::leaf(Element::built_in())
     }
@@ -53,8 +54,8 @@ impl ListingTree {
         right: ListingTree,
         room: &mut Room,
     ) -> Result<ListingTree, Apart>
-        ensures { MatchResult result (λ t. Grown way (model left.tree) (model right.tree) (model t.tree) × (vec_len room.new.boxes + 2 ≡ vec_len room.old.boxes))
-            (λ a. (a.left ≡ left) × (a.right ≡ right) × (room.new ≡ room.old) × Ungrown way (model left.tree) (model right.tree) (vec_len room.old.boxes) a.refusal) }
+        ensures { MatchResult result (λ t. Grown way left.tree right.tree t.tree × (vec_len room.new.boxes + 2 ≡ vec_len room.old.boxes))
+            (λ a. (a.left ≡ left) × (a.right ≡ right) × (room.new ≡ room.old) × Ungrown way left.tree right.tree (vec_len room.old.boxes) a.refusal) }
     {
         if room.left() < 2 {
             return Err(Apart {
@@ -70,20 +71,16 @@ impl ListingTree {
                 refusal: Refusal::NoJoint(refusal),
             }),
             Ok(joint) => {
-                let x = left.rising();
-                let y = right.rising();
+                let knot = Knot {
+                    joint,
+                    left: left.rising(),
+                    right: right.rising(),
+                };
                 let a = room.put(left.tree);
                 let b = room.put(right.tree);
+                let node = Node::Join(knot, a, b);
                 Ok(ListingTree {
-                    tree: Tree::Join(
-                        Knot {
-                            joint,
-                            left: x,
-                            right: y,
-                        },
-                        a,
-                        b,
-                    ),
+                    tree: Tree { node },
                 })
             }
         }

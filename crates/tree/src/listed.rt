@@ -2,46 +2,35 @@ mod whole;
 
 ghost use Rattle.std.specs.Prelude.{◌≡◌};
 ghost use Rattle.tree.specs.Models.{reads, Took, Emptied};
-ghost use Rattle.tree.specs.Trees.{model};
 ghost use Rattle.tree.specs.Law.{sound, took_fall, emptied_cleared};
 
-use crate::trees::Tree;
 use port::{Port, Taken};
 use wave::{Ratio, Wave};
 pub use whole::ListingTree;
 
 impl Port for ListingTree {
-    ghost reads = { λ s. reads (model s.tree) };
+    ghost reads = { λ s. reads s.tree };
 
-    ghost takes = { λ s f t z. Took (model s.tree) f t (model z.tree) };
+    ghost takes = { λ s f t z. Took s.tree f t z.tree };
 
-    ghost clears = { λ s e z. Emptied (model s.tree) e (model z.tree) };
+    ghost clears = { λ s e z. Emptied s.tree e z.tree };
 
     ghost lawful = { record {
-      sound = λ s. sound (model s.tree) s.fits;
-      fall = λ s f t z h. took_fall (model s.tree) f t (model z.tree) s.fits h;
-      cleared = λ s e z h. emptied_cleared (model s.tree) e (model z.tree) h;
+      sound = λ s. sound s.tree s.fits;
+      fall = λ s f t z h. took_fall s.tree f t z.tree s.fits h;
+      cleared = λ s e z h. emptied_cleared s.tree e z.tree h;
     } };
 
     fn ratio(&self) -> Ratio {
-        match &self.tree {
-            Tree::Leaf(e) => e.ratio(),
-            Tree::Join(k, _, _) => k.joint.ratio(),
-        }
+        self.tree.ratio()
     }
 
     fn size(&self) -> u32 {
-        match &self.tree {
-            Tree::Leaf(e) => e.size(),
-            Tree::Join(k, _, _) => k.joint.size(),
-        }
+        self.tree.size()
     }
 
     fn ears(&self) -> u32 {
-        match &self.tree {
-            Tree::Leaf(e) => e.ears(),
-            Tree::Join(k, _, _) => k.joint.ears(),
-        }
+        self.tree.ears()
     }
 
     fn rising(&self) -> Wave {

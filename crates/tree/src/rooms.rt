@@ -1,7 +1,7 @@
 ghost use Rattle.std.specs.Prelude.{◌≡◌, ◌+◌, ◌<◌, IfOk, vec_len};
 
 use crate::elements::Element;
-use crate::trees::Tree;
+use crate::trees::{Node, Tree};
 use std::alloc::{AllocError, Global};
 
 /// Spare boxes, made beforehand so that joining takes no memory: a join uses two, a tree of n elements 2 n - 2.
@@ -17,7 +17,8 @@ impl Room {
     {
         let mut boxes = Vec::new(heap);
         for _ in 0..n {
-            boxes.push(Box::new(heap, Tree::Leaf(Element::built_in()))?)?;
+            let node = Node::Leaf(Element::built_in());
+            boxes.push(Box::new(heap, Tree { node })?)?;
         }
         Ok(Room { boxes })
     }

@@ -1,10 +1,9 @@
 ghost use Rattle.std.specs.Prelude.{◌≡◌, ◌++◌, IfOk, OnOk};
-ghost use Rattle.tree.specs.Trees.{model};
 ghost use Rattle.tree.specs.Shapes.{steps};
 
 use crate::elements::Element;
 use crate::listed::ListingTree;
-use crate::trees::Tree;
+use crate::trees::{Node, Tree};
 use adaptor::Way;
 use std::alloc::{AllocError, Global};
 
@@ -19,11 +18,11 @@ pub enum Step {
 
 impl Tree {
     fn steps(&self, out: &mut Vec<Step>) -> Result<(), AllocError>
-        ensures { OnOk result (out.new.items ≡ out.old.items ++ steps (model self.now)) }
+        ensures { OnOk result (out.new.items ≡ out.old.items ++ steps self.now) }
     {
-        match self {
-            Tree::Leaf(e) => out.push(Step::One(*e))?,
-            Tree::Join(k, a, b) => {
+        match &self.node {
+            Node::Leaf(e) => out.push(Step::One(*e))?,
+            Node::Join(k, a, b) => {
                 out.push(Step::Begin)?;
                 a.steps(out)?;
                 out.push(Step::By(k.joint.way()))?;
@@ -38,7 +37,7 @@ impl Tree {
 impl ListingTree {
     /// The tree's steps: its elements as they are now, and how they are joined.
     pub fn shape(&self, heap: Global) -> Result<Vec<Step>, AllocError>
-        ensures { IfOk result (λ v. v.items ≡ steps (model self.now.tree)) }
+        ensures { IfOk result (λ v. v.items ≡ steps self.now.tree) }
     {
         let mut out = Vec::new(heap);
         self.tree.steps(&mut out)?;
