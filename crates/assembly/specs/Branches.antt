@@ -5,7 +5,6 @@ use Rattle.adaptor.specs.declared.ways.Way.{Way}
 use Rattle.adaptor.specs.declared.ways.Way.TheVariants.{Series, Parallel}
 use Rattle.adaptor.specs.declared.joints.JoinRefusal.TheVariants.{Number}
 use Rattle.tree.specs.Models.{Model, reads}
-use Rattle.tree.specs.Trees.{model}
 use Rattle.tree.specs.Growth.{Grown}
 use Rattle.net.specs.Reductions.{Edge}
 use Rattle.net.specs.declared.wires.Choice.{Choice}
@@ -13,7 +12,7 @@ use Rattle.net.specs.declared.wires.Choice.TheVariants.{Twins, Chain}
 use Rattle.assembly.specs.declared.branches.Branch.{Branch}
 
 abbrev pub edge : Branch → Edge Model
-edge b = record { what = model b.tree.tree; wire = b.wire; place = b.place }
+edge b = record { what = b.tree.tree; wire = b.wire; place = b.place }
 
 abbrev pub edges : List Branch → List (Edge Model)
 edges bs = map edge bs

@@ -1,5 +1,4 @@
 ghost use Rattle.std.specs.Prelude.{◌≡◌, ℕ, ◌≤◌, length, MatchResult};
-ghost use Rattle.tree.specs.Trees.{model};
 ghost use Rattle.assembly.specs.Limits.{most_branches};
 ghost use Rattle.assembly.specs.Assemblies.{Accepts, Refuses, OneEnd};
 ghost use Rattle.assembly.specs.Inner.{GrownFrom, Ungrown};
@@ -34,7 +33,7 @@ fn tree_of(
 ) -> Result<ListingTree, AssemblyFault>
     requires { length elements.now ≤ most_branches }
     ensures { MatchResult result
-        (λ t. GrownFrom scale.rate scale.unit ear elements.now port (model t.tree))
+        (λ t. GrownFrom scale.rate scale.unit ear elements.now port t.tree)
         (λ f. Ungrown scale.rate scale.unit ear elements.now port f) }
 {
     let Workspace {
@@ -64,7 +63,7 @@ pub fn assemble(
     place: &mut ListingTree,
 ) -> Result<Assembled, AssemblyFault>
     ensures answer { MatchResult result
-        (λ a. Accepts text.now rate unit ear.now (model place.new.tree) a)
+        (λ a. Accepts text.now rate unit ear.now place.new.tree a)
         (λ f. Refuses text.now rate unit ear.now f × (place.new ≡ place.old)) }
     ensures only { OneEnd }
 {

@@ -5,7 +5,6 @@ ghost use Rattle.adaptor.specs.Joins.{Parted};
 ghost use Rattle.adaptor.specs.declared.joints.JoinRefusal.TheVariants.{Number};
 ghost use Rattle.tree.specs.Models.{reads, Model as ModelIs};
 ghost use Rattle.tree.specs.Growth.{Grown};
-ghost use Rattle.tree.specs.Trees.{model};
 ghost use Rattle.net.specs.Choices.{Stuck, chosen_pair};
 ghost use Rattle.net.specs.Reductions.{Steps, EndsOver, Whole, wires};
 ghost use Rattle.assembly.specs.Branches.{edges, way_for, Joins, Refused};
@@ -52,11 +51,11 @@ fn let_go(_apart: Apart) {}
 // The two trees joined; none where a number is too large.
 fn joined(way: Way, left: ListingTree, right: ListingTree, room: &mut Room) -> Option<ListingTree>
     requires boxes { 2 ≤ vec_len room.old.boxes }
-    requires small { (reads (model left.tree)).size + (reads (model right.tree)).size ≤ largest_size }
-    requires eared { (reads (model left.tree)).ears + (reads (model right.tree)).ears ≤ 1 }
+    requires small { (reads left.tree).size + (reads right.tree).size ≤ largest_size }
+    requires eared { (reads left.tree).ears + (reads right.tree).ears ≤ 1 }
     ensures { MatchOption result
-        (Parted way (reads (model left.tree)) (reads (model right.tree)) Number)
-        (λ t. Grown way (model left.tree) (model right.tree) (model t.tree) × (vec_len room.new.boxes + 2 ≡ vec_len room.old.boxes)) }
+        (Parted way (reads left.tree) (reads right.tree) Number)
+        (λ t. Grown way left.tree right.tree t.tree × (vec_len room.new.boxes + 2 ≡ vec_len room.old.boxes)) }
 {
     match ListingTree::join(way, left, right, room) {
         Ok(tree) => Some(tree),
@@ -123,7 +122,7 @@ pub(crate) fn reduce(room: &mut Room, branches: &mut Vec<Branch>, port: Wire) ->
 pub(crate) fn last(branches: Vec<Branch>, port: Wire) -> Option<ListingTree>
     ensures { MatchOption result
         ((m : ModelIs) → Whole Joins Refused port (edges branches.items) m → ⊥)
-        (λ t. Whole Joins Refused port (edges branches.items) (model t.tree)) }
+        (λ t. Whole Joins Refused port (edges branches.items) t.tree) }
 {
     let mut branches = branches;
     if branches.len() != 1 {

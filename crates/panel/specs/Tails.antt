@@ -5,15 +5,14 @@ use Rattle.closing.specs.declared.meaning.Closing.{Ghosts as ClosingOf}
 use Rattle.rig.specs.Runs.{Event, Run, All, Feeds, of_round, sum}
 use Rattle.rig.specs.declared.parts.Rig.{Rig}
 use Rattle.tree.specs.Models.{reads, Took, Emptied}
-use Rattle.tree.specs.Trees.{model}
 use Rattle.tree.specs.declared.listed.whole.ListingTree.{ListingTree}
 
 -- a listing tree as a port
 abbrev pub tree_port : PortOf ListingTree
 tree_port = record {
-  reads = λ s. reads (model s.tree);
-  takes = λ s f t z. Took (model s.tree) f t (model z.tree);
-  clears = λ s e z. Emptied (model s.tree) e (model z.tree);
+  reads = λ s. reads s.tree;
+  takes = λ s f t z. Took s.tree f t z.tree;
+  clears = λ s e z. Emptied s.tree e z.tree;
 }
 
 -- 1 if anything is heard, else 0

@@ -6,7 +6,6 @@ ghost use Rattle.closing.specs.Meaning.{Bounded};
 ghost use Rattle.rig.specs.Pages.{Fresh};
 ghost use Rattle.rig.specs.Energy.{Promises};
 ghost use Rattle.stream.specs.Pieces.{WhateverTheCuts};
-ghost use Rattle.tree.specs.Trees.{model};
 ghost use Rattle.assembly.specs.Assemblies.{Accepts, Refuses, row};
 ghost use Rattle.lines.specs.Texts.{line_of, Holds};
 ghost use Rattle.lines.specs.Words.{refusal_words};
@@ -68,7 +67,7 @@ pub fn prepare(
     place: &mut ListingTree,
 ) -> Result<Assembled, AssemblyFault>
     ensures { MatchResult result
-        (λ a. Accepts text.now panel_rate panel_unit (codes "R1") (model place.new.tree) a)
+        (λ a. Accepts text.now panel_rate panel_unit (codes "R1") place.new.tree a)
         (λ f. Refuses text.now panel_rate panel_unit (codes "R1") f × (place.new ≡ place.old)) }
 {
     assemble(text, RATE, UNIT, b"R1", space, place)

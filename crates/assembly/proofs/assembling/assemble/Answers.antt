@@ -2,7 +2,6 @@ use Rattle.std.proofs.Common.{◌≡◌, ℕ, ◌<◌, ◌≤◌, false, not, Li
 use Rattle.std.proofs.lemmas.Result.{err_from_is_err_and}
 use Rattle.reader.specs.declared.Element.{Element}
 use Rattle.weights.specs.Limits.{Scaled}
-use Rattle.tree.specs.Trees.{model}
 use Rattle.net.specs.declared.wires.Wire.{Wire}
 use Rattle.assembly.specs.Beginnings.{Earless, EarIs}
 use Rattle.assembly.specs.Inner.{GrownFrom, Ungrown}
@@ -52,14 +51,14 @@ returns-then-ear-gt0 c =
     let ear = c.ear_of-at.result in
     let eared : EarIs t d.elements name ear = subst (λ (l : List Element). EarIs t l name ear) c.as_slice-elements.ensures.items c.ear_of-at.ensures in
     let wire : ◌≡◌ {A = Wire} (port_of d) (port_of d) = refl in
-    let g : GrownFrom rate unit ear d.elements (port_of d) (model c.in-Ok.tree.tree) = moved (λ r u l w. GrownFrom r u ear l w (model c.in-Ok.tree.tree)) a b c.as_slice-elements.ensures.items wire c.in-Ok.ensures in
+    let g : GrownFrom rate unit ear d.elements (port_of d) c.in-Ok.tree.tree = moved (λ r u l w. GrownFrom r u ear l w c.in-Ok.tree.tree) a b c.as_slice-elements.ensures.items wire c.in-Ok.ensures in
     let none : is_some ear ≡ false = c.is_none.ensures ∙ ap not c.if-is_none.true in
     record {
       answer = (
         (
           d,
           g.branches,
-          model c.in-Ok.tree.tree,
+          c.in-Ok.tree.tree,
           record { read = read; scaled = scaled; ear = ear; eared = eared; begins = g.begins },
           g.down,
           no_ear t d.elements name ear eared none (omega (arith, c.if-ear-gt0.true)),
@@ -84,7 +83,7 @@ returns c =
     let ear = c.ear_of-at.result in
     let eared : EarIs t d.elements name ear = subst (λ (l : List Element). EarIs t l name ear) c.as_slice-elements.ensures.items c.ear_of-at.ensures in
     let wire : ◌≡◌ {A = Wire} (port_of d) (port_of d) = refl in
-    let g : GrownFrom rate unit ear d.elements (port_of d) (model c.in-Ok.tree.tree) = moved (λ r u l w. GrownFrom r u ear l w (model c.in-Ok.tree.tree)) a b c.as_slice-elements.ensures.items wire c.in-Ok.ensures in
+    let g : GrownFrom rate unit ear d.elements (port_of d) c.in-Ok.tree.tree = moved (λ r u l w. GrownFrom r u ear l w c.in-Ok.tree.tree) a b c.as_slice-elements.ensures.items wire c.in-Ok.ensures in
     let fits : Earless t d.elements name → ⊥ = elim c.else-is_none.branch [
       | else-is_none-via-then-is_none+else-ear-gt0 w ↦ λ e. omega (arith, e.0, w.if-ear-gt0.false)
       | else-is_none-via-else-is_none w ↦ has_ear t d.elements name ear eared (c.is_none.ensures ∙ ap not w.if-is_none.false)
