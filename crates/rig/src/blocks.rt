@@ -32,10 +32,8 @@ impl<P: Port, C: Closing> Rig<P, C> {
         requires { Ready self.old }
         ensures { Passed P.Port C.Closing self.old (sample_wave (slice_index sample 0) (slice_index sample 1)) result self.new }
     {
-        match self.feed(wave_of(sample)) {
-            Ok(round) => bytes_of(round.heard),
-            Err(_) => unreachable(),
-        }
+        let round = self.feed(wave_of(sample)).unwrap();
+        bytes_of(round.heard)
     }
 
     /// Feeds the samples of `input`, each a signed number of 16 bits with its low byte first, and writes what is heard into the front of `output`.
