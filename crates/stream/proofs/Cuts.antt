@@ -1,11 +1,13 @@
 -- Two pieces, one after the other, are one piece; and a byte is a piece.
-use Rattle.std.proofs.Common.{◌≡◌, ℕ, List, [], ◌∷◌, ◌++◌, ℤ, Some, None, Ok, Err, Option, sym, refl, ap, ◌∙◌, subst, ap₂, append_assoc, arith}
+use Rattle.std.proofs.Common.{◌≡◌, ℕ, List, [], ◌∷◌, ◌++◌, ℤ, Some, None, Ok, Option, sym, refl, ap, ◌∙◌, subst, ap₂, append_assoc, append-nil, arith}
+use Rattle.std.specs.Option.{option_to_list}
+use Rattle.std.proofs.lemmas.Grind.{flat_map-append}
 use Rattle.pcm.specs.Samples.{sample_wave, sample_bytes}
 use Rattle.port.specs.declared.meaning.Port.{Ghosts as PortOf}
 use Rattle.closing.specs.declared.meaning.Closing.{Ghosts as ClosingOf}
 use Rattle.rig.specs.Blocks.{waves_of, heard_bytes}
-use Rattle.rig.specs.Runs.{Event, Run, Feeds}
-use Rattle.rig.specs.Runs.Event.{feed, raise, answer, withdraw, clear, turn}
+use Rattle.rig.specs.Runs.{Run, Feeds}
+use Rattle.rig.specs.Runs.Event.{feed}
 use Rattle.rig.specs.Runs.Run.{done, next}
 use Rattle.rig.proofs.Blocked.{run_more}
 use Rattle.rig.specs.declared.pages.Page.{Page}
@@ -13,7 +15,7 @@ use Rattle.rig.specs.declared.pages.Round.{Round}
 use Rattle.rig.specs.declared.parts.Rig.{Rig}
 use Rattle.session.specs.Sessions.{turns, Fills}
 use Rattle.session.proofs.Sums.{fed-++, all-++, round_fed, round_feeds}
-use Rattle.stream.specs.Pieces.{waiting, left_over, rounds, turned, Full, listed, Pieced, WhateverTheCuts}
+use Rattle.stream.specs.Pieces.{left_over, round_of, page_of, rounds, turned, Full, Pieced, WhateverTheCuts}
 
 waves_cut : (xs ys : List ℕ) → waves_of (xs ++ ys) ≡ waves_of xs ++ waves_of (left_over xs ++ ys)
 waves_cut [] ys = refl
@@ -24,27 +26,6 @@ over_cut : (xs ys : List ℕ) → left_over (xs ++ ys) ≡ left_over (left_over 
 over_cut [] ys = refl
 over_cut (b ∷ []) ys = refl
 over_cut (l ∷ (h ∷ r)) ys = over_cut r ys
-
-rounds-++ : (xs ys : List Event) → rounds (xs ++ ys) ≡ rounds xs ++ rounds ys
-rounds-++ [] ys = refl
-rounds-++ (feed e (Ok x) ∷ xs) ys = ap (λ (t : List Round). x ∷ t) (rounds-++ xs ys)
-rounds-++ (feed e (Err y) ∷ xs) ys = rounds-++ xs ys
-rounds-++ (raise o ∷ xs) ys = rounds-++ xs ys
-rounds-++ (answer w f (Ok x) ∷ xs) ys = ap (λ (t : List Round). x ∷ t) (rounds-++ xs ys)
-rounds-++ (answer w f (Err y) ∷ xs) ys = rounds-++ xs ys
-rounds-++ (withdraw w o ∷ xs) ys = rounds-++ xs ys
-rounds-++ (clear o ∷ xs) ys = rounds-++ xs ys
-rounds-++ (turn o ∷ xs) ys = rounds-++ xs ys
-
-turned-++ : (xs ys : List Event) → turned (xs ++ ys) ≡ turned xs ++ turned ys
-turned-++ [] ys = refl
-turned-++ (feed e o ∷ xs) ys = turned-++ xs ys
-turned-++ (raise o ∷ xs) ys = turned-++ xs ys
-turned-++ (answer w f o ∷ xs) ys = turned-++ xs ys
-turned-++ (withdraw w o ∷ xs) ys = turned-++ xs ys
-turned-++ (clear o ∷ xs) ys = turned-++ xs ys
-turned-++ (turn (Ok p) ∷ xs) ys = ap (λ (t : List Page). p ∷ t) (turned-++ xs ys)
-turned-++ (turn (Err y) ∷ xs) ys = turned-++ xs ys
 
 heard-++ : (xs ys : List Round) → heard_bytes (xs ++ ys) ≡ heard_bytes xs ++ heard_bytes ys
 heard-++ [] ys = refl
@@ -59,27 +40,23 @@ round_rounds : (e : ℤ) (x : Round) (p : Option Page) → rounds (feed e (Ok x)
 round_rounds e x None = refl
 round_rounds e x (Some p) = refl
 
-round_turned : (e : ℤ) (x : Round) (p : Option Page) → turned (feed e (Ok x) ∷ turns p) ≡ listed p
+round_turned : (e : ℤ) (x : Round) (p : Option Page) → turned (feed e (Ok x) ∷ turns p) ≡ option_to_list p
 round_turned e x None = refl
 round_turned e x (Some p) = refl
-
-append_none : (xs : List ℕ) → xs ++ [] ≡ xs
-append_none [] = refl
-append_none (x ∷ xs) = ap (λ (t : List ℕ). x ∷ t) (append_none xs)
 
 module _ {P C : Type 0} (ports : PortOf P) (closings : ClosingOf C) where
   pub whatever_the_cuts : WhateverTheCuts {P = P} {C = C} ports closings
   whatever_the_cuts a b c l m n x y o q p r A B =
-      let w = waiting l ++ x in
-      let s : waiting l ++ (x ++ y) ≡ w ++ y = sym (append_assoc (waiting l) x y) in
+      let w = option_to_list l ++ x in
+      let s : option_to_list l ++ (x ++ y) ≡ w ++ y = sym (append_assoc (option_to_list l) x y) in
       record {
         calls = A.calls ++ B.calls;
         run = run_more ports closings A.run B.run;
         feeds = all-++ (Feeds (λ e. Unit {0})) A.calls B.calls A.feeds B.feeds;
         samples = fed-++ A.calls B.calls ∙ ap₂ (λ (t : List ℤ) (u : List ℤ). t ++ u) A.samples (B.samples ∙ ap (λ (t : List ℕ). waves_of (t ++ y)) A.waits)
             ∙ sym (ap waves_of s ∙ waves_cut w y);
-        heard = ap₂ (λ (t : List ℕ) (u : List ℕ). t ++ u) A.heard B.heard ∙ sym (ap heard_bytes (rounds-++ A.calls B.calls) ∙ heard-++ (rounds A.calls) (rounds B.calls));
-        turns = ap₂ (λ (t : List Page) (u : List Page). t ++ u) A.turns B.turns ∙ sym (turned-++ A.calls B.calls);
+        heard = ap₂ (λ (t : List ℕ) (u : List ℕ). t ++ u) A.heard B.heard ∙ sym (ap heard_bytes (flat_map-append round_of A.calls B.calls) ∙ heard-++ (rounds A.calls) (rounds B.calls));
+        turns = ap₂ (λ (t : List Page) (u : List Page). t ++ u) A.turns B.turns ∙ sym (flat_map-append page_of A.calls B.calls);
         full = full-++ p r A.full B.full;
         waits = B.waits ∙ ap (λ (t : List ℕ). left_over (t ++ y)) A.waits ∙ sym (ap left_over s ∙ over_cut w y);
       }
@@ -94,21 +71,21 @@ module _ {P C : Type 0} (ports : PortOf P) (closings : ClosingOf C) where
   first_byte a l b e = subst (λ (t : Option ℕ). Pieced ports closings a t (b ∷ []) [] [] a (Some b)) (sym e)
       record { calls = []; run = done; feeds = tt; samples = refl; heard = refl; turns = refl; full = tt; waits = refl }
 
-  filled : (a : Rig P C) (e : ℤ) (x : Round) (p : Option Page) (b : Rig P C) → Run ports closings a (feed e (Ok x) ∷ turns p) b → Fills a p → Full (listed p)
+  filled : (a : Rig P C) (e : ℤ) (x : Round) (p : Option Page) (b : Rig P C) → Run ports closings a (feed e (Ok x) ∷ turns p) b → Fills a p → Full (option_to_list p)
   filled a e x None b r f = tt
   filled a e x (Some p) b (next y s (next z t q)) f = (ap (λ (g : Page). g.entries) t.1.answer ∙ omega (arith, s.2.round.tally.entries, f), tt)
 
   -- a byte that completes a sample
-  pub second_byte : (a : Rig P C) (l : Option ℕ) (low b : ℕ) (x : Round) (p : Option Page) (out : List ℕ) (c : Rig P C) → l ≡ Some low
+  pub second_byte : (a : Rig P C) (l m : Option ℕ) (low b : ℕ) (x : Round) (p : Option Page) (out : List ℕ) (c : Rig P C) → l ≡ Some low → m ≡ None
       → Run ports closings a (feed (sample_wave low b) (Ok x) ∷ turns p) c → Fills a p → out ≡ sample_bytes x.heard
-      → Pieced ports closings a l (b ∷ []) out (listed p) c None
-  second_byte a l low b x p out c e r f h = subst (λ (t : Option ℕ). Pieced ports closings a t (b ∷ []) out (listed p) c None) (sym e) record {
+      → Pieced ports closings a l (b ∷ []) out (option_to_list p) c m
+  second_byte a l m low b x p out c e n r f h = record {
     calls = feed (sample_wave low b) (Ok x) ∷ turns p;
     run = r;
     feeds = round_feeds (λ e. Unit {0}) (sample_wave low b) x p tt;
-    samples = round_fed (sample_wave low b) x p;
-    heard = h ∙ sym (ap heard_bytes (round_rounds (sample_wave low b) x p) ∙ append_none (sample_bytes x.heard));
+    samples = round_fed (sample_wave low b) x p ∙ ap (λ t. waves_of (option_to_list t ++ (b ∷ []))) (sym e);
+    heard = h ∙ sym (ap heard_bytes (round_rounds (sample_wave low b) x p) ∙ append-nil (sample_bytes x.heard));
     turns = sym (round_turned (sample_wave low b) x p);
     full = filled a (sample_wave low b) x p c r f;
-    waits = refl;
+    waits = ap option_to_list n ∙ ap (λ t. left_over (option_to_list t ++ (b ∷ []))) (sym e);
   }

@@ -4,5 +4,4 @@
 pub mod pieces;
 pub mod streams;
 
-pub use pieces::Measured;
-pub use streams::{Pushed, Stream};
+pub use streams::{Heard, Stream};

@@ -1,44 +1,10 @@
-ghost use Rattle.std.specs.Prelude.{◌≡◌, ℕ, ◌+◌, ◌≤◌, List, ◌++◌, length, drop};
-ghost use Rattle.stream.specs.Calls.{Filters, Measures};
-ghost use Rattle.stream.specs.Pieces.{heard_of, pages_of, listed};
+ghost use Rattle.std.specs.Prelude.{◌≡◌, ◌<◌, length, IfSome, MatchOption};
+ghost use Rattle.stream.specs.Calls.{Filters, UsedUp, Fills};
 
-use crate::streams::{Pushed, Stream};
+use crate::streams::Stream;
 use closing::Closing;
 use port::Port;
 use rig::Page;
-
-/// How far a piece was measured: how many of its bytes were used, and the page that the last of them filled, if it did.
-#[derive(Clone, Copy)]
-pub struct Measured {
-    pub used: usize,
-    pub page: Option<Page>,
-}
-
-// Writes what a byte brought at a place of `out`, and answers the place behind it.
-fn put(out: &mut [u8], at: usize, pushed: Pushed) -> usize
-    requires { at + length (heard_of pushed) ≤ length out.old }
-    ensures place { result ≡ at + length (heard_of pushed) }
-    ensures written { (p s : List ℕ) → out.old ≡ p ++ drop at s → length p ≡ at → out.new ≡ (p ++ heard_of pushed) ++ drop result s }
-{
-    match pushed {
-        Pushed::Held => at,
-        Pushed::Heard(low, high, _) => {
-            out[at] = low;
-            out[at + 1] = high;
-            at + 2
-        }
-    }
-}
-
-// The page that a byte filled.
-fn filled(pushed: Pushed) -> Option<Page>
-    ensures { listed result ≡ pages_of pushed }
-{
-    match pushed {
-        Pushed::Held => None,
-        Pushed::Heard(_, _, page) => page,
-    }
-}
 
 impl<P: Port, C: Closing> Stream<P, C> {
     /// Feeds a piece, and writes what is heard of it into the front of `out`; answers how many bytes that are. Nothing is done where `out` is not longer
@@ -50,26 +16,25 @@ impl<P: Port, C: Closing> Stream<P, C> {
             return None;
         }
         let mut at = 0;
-        for b in piece {
-            let pushed = self.push(*b);
-            at = put(out, at, pushed);
+        for byte in piece {
+            if let Some(heard) = self.push(*byte) {
+                out[at..at + 2].copy_from_slice(&heard.bytes);
+                at += 2;
+            }
         }
         Some(at)
     }
 
-    /// Feeds a piece up to the byte that fills the page, or to its end.
-    pub fn measure(&mut self, piece: &[u8]) -> Measured
-        ensures { Measures P.Port C.Closing self.old piece.now result self.new }
+    /// Feeds a piece up to the byte that fills a page, and answers the page and the rest of the piece; or feeds all of it, if no page is filled.
+    pub fn measure<'a>(&mut self, piece: &'a [u8]) -> Option<(Page, &'a [u8])>
+        ensures what { MatchOption result (UsedUp P.Port C.Closing self.old piece.now self.new) (λ x. Fills P.Port C.Closing self.old piece.now x.0 x.1.now self.new) }
+        ensures shorter { IfSome result (λ x. length x.1.now < length piece.now) }
     {
-        for i in 0..piece.len() {
-            let page = filled(self.push(piece[i]));
-            if page.is_some() {
-                return Measured { used: i + 1, page };
+        for (i, byte) in piece.iter().enumerate() {
+            if let Some(page) = self.push(*byte).and_then(|heard| heard.page) {
+                return Some((page, &piece[i + 1..]));
             }
         }
-        Measured {
-            used: piece.len(),
-            page: None,
-        }
+        None
     }
 }

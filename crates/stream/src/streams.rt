@@ -11,7 +11,7 @@ use pcm::{bytes_of, wave_of};
 use port::Port;
 use rig::Page;
 use session::Session;
-pub use state::{Pushed, Stream};
+pub use state::{Heard, Stream};
 
 impl<P: Port, C: Closing> Stream<P, C> {
     /// A stream through a new rig, with what the rig promises of every list of calls; and pieces a, then b, give what a and b together give.
@@ -33,26 +33,21 @@ impl<P: Port, C: Closing> Stream<P, C> {
         self.session.port()
     }
 
-    /// One byte more.
-    pub fn push(&mut self, byte: u8) -> Pushed
+    /// One byte more: it waits for the second of its sample, or it completes a sample, which is heard.
+    pub fn push(&mut self, byte: u8) -> Option<Heard>
         ensures halves { Halves result self.old.low self.new.low }
         ensures piece { Pieced P.Port C.Closing self.old.session.rig self.old.low (byte ∷ []) (heard_of result) (pages_of result) self.new.session.rig self.new.low }
     {
-        match self.low {
-            None => {
-                self.low = Some(byte);
-                Pushed::Held
-            }
-            Some(low) => {
-                self.low = None;
-                match self.session.feed(wave_of([low, byte])) {
-                    Ok(entry) => {
-                        let heard = bytes_of(entry.round.heard);
-                        Pushed::Heard(heard[0], heard[1], entry.page)
-                    }
-                    Err(_) => unreachable(),
-                }
-            }
+        let Some(low) = self.low.take() else {
+            self.low = Some(byte);
+            return None;
+        };
+        match self.session.feed(wave_of([low, byte])) {
+            Ok(entry) => Some(Heard {
+                bytes: bytes_of(entry.round.heard),
+                page: entry.page,
+            }),
+            Err(_) => unreachable(),
         }
     }
 

@@ -8,11 +8,9 @@ pub struct Stream<P, C> {
     pub(crate) low: Option<u8>,
 }
 
-/// What a byte brought.
+/// What was heard of a sample, the low byte first, and the page that it filled, if it did.
 #[derive(Clone, Copy)]
-pub enum Pushed {
-    /// It is the first of a sample, and waits for the second.
-    Held,
-    /// It completed a sample: what was heard of it, the low byte first, and the page that it filled, if it did.
-    Heard(u8, u8, Option<Page>),
+pub struct Heard {
+    pub bytes: [u8; 2],
+    pub page: Option<Page>,
 }
