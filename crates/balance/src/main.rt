@@ -38,13 +38,10 @@ fn weigh_piece(
     piece: &[u8],
     made: Assembled,
 ) -> anyhow::Result<()> {
-    let mut at = 0;
-    while at < piece.len() {
-        let measured = stream.measure(&piece[at..piece.len()]);
-        at += measured.used;
-        if let Some(page) = measured.page {
-            write_line(rt, page_line(made.num, made.den, page))?;
-        }
+    let mut left = piece;
+    while let Some((page, rest)) = stream.measure(left) {
+        write_line(rt, page_line(made.num, made.den, page))?;
+        left = rest;
     }
     Ok(())
 }

@@ -61,13 +61,10 @@ fn weigh_piece(
     made: Assembled,
     out: &mut Vec<u8>,
 ) -> anyhow::Result<()> {
-    let mut at = 0;
-    while at < piece.len() {
-        let measured = stream.measure(&piece[at..piece.len()]);
-        at += measured.used;
-        if let Some(page) = measured.page {
-            add_line(out, page_line(made.num, made.den, page))?;
-        }
+    let mut left = piece;
+    while let Some((page, rest)) = stream.measure(left) {
+        add_line(out, page_line(made.num, made.den, page))?;
+        left = rest;
     }
     Ok(())
 }
