@@ -1,11 +1,12 @@
 -- Samples and silence, round by round.
 use Rattle.std.proofs.Common.{◌≡◌, ℕ, suc, ◌+◌, ◌*◌, ◌/◌, ◌%◌, ◌<◌, ◌≤◌, min, Bool, true, false, cond, eqb, ◌⊎◌, List, [], ◌∷◌, ◌++◌, length, get_or, take, ℤ, pos, ◌+ℤ◌, Ok, Option, sym, refl, ap, ◌∙◌, subst, ap₂, arith, length-take}
 use Rattle.std.proofs.lemmas.Int.{ints}
+use Rattle.std.specs.Simd.{first_chunks}
 use Rattle.pcm.specs.Samples.{sample_wave}
 use Rattle.port.specs.declared.meaning.Port.{Ghosts as PortOf}
 use Rattle.closing.specs.declared.meaning.Closing.{Ghosts as ClosingOf}
 use Rattle.rig.specs.Blocks.{waves_of}
-use Rattle.rig.proofs.Blocked.{run_more, waves_more, taken_two}
+use Rattle.rig.proofs.Blocked.{run_more, waves_more, taken_two, sample_at}
 use Rattle.rig.specs.Runs.{Event, Run, All, Feeds, of_round, of_clear, swing}
 use Rattle.rig.specs.Runs.Event.{feed}
 use Rattle.rig.specs.Runs.Run.{done}
@@ -18,7 +19,7 @@ use Rattle.report.specs.Reports.{longest_silence, quiet, idle_after, Adds, Longe
 use Rattle.report.specs.declared.accounts.account.Account.{Account}
 use Rattle.report.specs.declared.reports.Silence.{Silence}
 use Rattle.session.proofs.Sums.{sum-++, swing-++, fed-++, all-++, Comes, round_comes, round_busy, round_fed, round_feeds}
-use Rattle.report.proofs.Idle.{idle-++, round_idle}
+use Rattle.report.proofs.Idle.{idle-++, round_idle, awaits-++, round_awaits}
 
 waves_pairs : (s : List ℕ) → waves_of (take (2 * (length s / 2)) s) ≡ waves_of s
 waves_pairs [] = refl
@@ -64,11 +65,16 @@ module _ {P C : Type 0} (ports : PortOf P) (closings : ClosingOf C) where
   pub said_start : (a : Rig P C) (samples : List ℕ) (p : Account) → Said a samples p 0 p a
   said_start a samples p = record { calls = []; run = done; feeds = tt; all = refl; adds = adds_none p; count = omega arith }
 
-  pub said_more : (a : Rig P C) (samples : List ℕ) (p : Account) (i : ℕ) (x : Account) (b : Rig P C) (r : Round) (g : Option Page) (c : Rig P C) (y : Account) → 2 * i + 1 < length samples
-      → Said a samples p i x b → Run ports closings b (feed (sample_wave (get_or samples (2 * i) 0) (get_or samples (2 * i + 1) 0)) (Ok r) ∷ turns g) c → CountsRound x r y
+  pub said_more : (a : Rig P C) (samples : List ℕ) (p : Account) (i : ℕ) (x : Account) (b : Rig P C) (r : Round) (g : Option Page) (c : Rig P C) (y : Account) → (ss : List (List ℕ)) (d : List ℕ)
+      → ss ≡ first_chunks 2 (length samples / 2) samples → length ss ≡ length samples / 2 → i < length ss → Said a samples p i x b
+      → Run ports closings b (feed (sample_wave (get_or (get_or ss i d) 0 0) (get_or (get_or ss i d) 1 0)) (Ok r) ∷ turns g) c → CountsRound x r y
       → Said a samples p (i + 1) y c
-  said_more a samples p i x b r g c y h s q k =
+  said_more a samples p i x b r g c y ss d f m j s u k =
+      let h : 2 * i + 1 < length samples = omega (arith, m) in
       let e = sample_wave (get_or samples (2 * i) 0) (get_or samples (2 * i + 1) 0) in
+      let q : Run ports closings b (feed e (Ok r) ∷ turns g) c =
+      subst (λ (t : List ℕ). Run ports closings b (feed (sample_wave (get_or t 0 0) (get_or t 1 0)) (Ok r) ∷ turns g) c)
+      (ap (λ t. get_or t i d) f ∙ sample_at (length samples / 2) samples i d (omega (arith, m)) (omega arith)) u in
       let l = feed e (Ok r) ∷ turns g in
       let even : length (take (2 * i) samples) % 2 ≡ 0 = omega (arith, length-take (2 * i) samples) in
       record {
@@ -106,7 +112,7 @@ module _ {P C : Type 0} (ports : PortOf P) (closings : ClosingOf C) where
   pub hushed_start : (b : Rig P C) (p : Account) (s : Silence) → s.rounds ≡ 0 → s.busy ≡ 0 → s.idle ≡ 0 → Hushed b p s p b
   hushed_start b p s n u v = record {
     calls = [];
-    hush = record { run = done; silent = tt; rounds = n; busy = u; idle = v };
+    hush = record { run = done; silent = tt; rounds = n; busy = u; idle = v; until = tt; few = omega (arith, n) };
     adds = adds_none p;
     busy_most = omega (arith, n, u);
     idle_most = omega (arith, n, v);
@@ -116,9 +122,9 @@ module _ {P C : Type 0} (ports : PortOf P) (closings : ClosingOf C) where
   cond_most true m n h = omega arith
   cond_most false m n h = omega arith
 
-  pub hushed_more : (b : Rig P C) (p : Account) (s : Silence) (x : Account) (c : Rig P C) (r : Round) (g : Option Page) (d : Rig P C) (t : Silence) (y : Account) → Hushed b p s x c
+  pub hushed_more : (b : Rig P C) (p : Account) (s : Silence) (x : Account) (c : Rig P C) (r : Round) (g : Option Page) (d : Rig P C) (t : Silence) (y : Account) → s.idle < quiet → s.rounds < longest_silence → Hushed b p s x c
       → Run ports closings c (feed (pos 0) (Ok r) ∷ turns g) d → CountsRound x r y → Longer s r t → Hushed b p t y d
-  hushed_more b p s x c r g d t y H q k L =
+  hushed_more b p s x c r g d t y i m H q k L =
       let l = feed (pos 0) (Ok r) ∷ turns g in
       let ys = H.calls in
       let S = H.hush in
@@ -130,12 +136,14 @@ module _ {P C : Type 0} (ports : PortOf P) (closings : ClosingOf C) where
           rounds = omega (arith, L.rounds, S.rounds, sum-++ (λ x. of_round (λ z. 1) x + of_clear (λ z. 1) x) ys l, (round_comes (pos 0) r g).entered);
           busy = omega (arith, L.busy, S.busy, sum-++ (of_round (λ x. min 1 (x.shortened + x.absorbed))) ys l, round_busy (pos 0) r g);
           idle = L.idle ∙ ap (λ n. cond (eqb (r.shortened + r.absorbed) 0) (n + 1) 0) S.idle ∙ sym (idle-++ ys l 0 ∙ round_idle (idle_after 0 ys) (pos 0) r g);
+          until = awaits-++ ys l 0 S.until (round_awaits (idle_after 0 ys) (pos 0) r g (omega (arith, i, S.idle)));
+          few = omega (arith, m, L.rounds);
         };
         adds = adds_round p x y ys (pos 0) r g H.adds k;
         busy_most = omega (arith, L.busy, L.rounds, H.busy_most);
         idle_most = subst (λ n. n ≤ t.rounds) (sym L.idle) (subst (λ n. cond (eqb (r.shortened + r.absorbed) 0) (s.idle + 1) 0 ≤ n) (sym L.rounds) (cond_most _ s.idle s.rounds H.idle_most));
       }
 
-  pub hushed_end : (b : Rig P C) (p : Account) (s : Silence) (x : Account) (c : Rig P C) → s.rounds ≤ longest_silence → (s.rounds ≡ longest_silence) ⊎ (quiet ≤ s.idle) → Hushed b p s x c
+  pub hushed_end : (b : Rig P C) (p : Account) (s : Silence) (x : Account) (c : Rig P C) → (s.rounds ≡ longest_silence) ⊎ (quiet ≤ s.idle) → Hushed b p s x c
       → Rested ports closings b p s x c
-  hushed_end b p s x c few o H = record { calls = H.calls; hush = H.hush; adds = H.adds; few = omega (arith, few, H.hush.rounds); over = o }
+  hushed_end b p s x c o H = record { calls = H.calls; hush = H.hush; adds = H.adds; over = o }

@@ -1,8 +1,9 @@
 -- What a report says of a recording.
-use Rattle.std.specs.Prelude.{◌≡◌, ℕ, ◌+◌, ◌*◌, ◌≤◌, min, cond, ◌⊎◌, List, [], ◌∷◌, ◌++◌, length, pos, ◌+ℤ◌, ◌*ℤ◌, ◌≤ℤ◌, Ok, Err, Option, ◌==◌}
+use Rattle.std.specs.Prelude.{◌≡◌, ℕ, ◌+◌, ◌*◌, ◌<◌, ◌≤◌, min, cond, ◌⊎◌, List, [], ◌∷◌, ◌++◌, length, pos, ◌+ℤ◌, ◌*ℤ◌, ◌≤ℤ◌, Ok, Err, Option, ◌==◌}
 use Rattle.port.specs.declared.meaning.Port.{Ghosts as PortOf}
 use Rattle.closing.specs.declared.meaning.Closing.{Ghosts as ClosingOf}
 use Rattle.rig.specs.Blocks.{waves_of}
+use Rattle.rig.specs.Pages.{Fresh}
 use Rattle.rig.specs.Runs.{Event, Run, All, Feeds, entries, absorbed, dropped, shortened, swing, busy}
 use Rattle.rig.specs.Runs.Event.{feed, raise, answer, withdraw, clear, turn}
 use Rattle.rig.specs.declared.pages.Page.{Page}
@@ -23,17 +24,35 @@ longest_silence = 1000000
 abbrev pub quiet : ℕ
 quiet = 256
 
--- how many rounds passed since the last that shortened or absorbed something, where n had passed before
+-- how many rounds passed since the last that shortened or absorbed something, where n had passed before a call
+abbrev pub idle_next : ℕ → Event → ℕ
+idle_next n (feed e (Ok x)) = cond (x.shortened + x.absorbed == 0) (n + 1) 0
+idle_next n (feed e (Err y)) = n
+idle_next n (raise o) = n
+idle_next n (answer w f (Ok x)) = cond (x.shortened + x.absorbed == 0) (n + 1) 0
+idle_next n (answer w f (Err y)) = n
+idle_next n (withdraw w o) = n
+idle_next n (clear o) = n
+idle_next n (turn o) = n
+
+-- and before some calls
 abbrev pub idle_after : ℕ → List Event → ℕ
 idle_after n [] = n
-idle_after n (feed e (Ok x) ∷ xs) = idle_after (cond (x.shortened + x.absorbed == 0) (n + 1) 0) xs
-idle_after n (feed e (Err y) ∷ xs) = idle_after n xs
-idle_after n (raise o ∷ xs) = idle_after n xs
-idle_after n (answer w f (Ok x) ∷ xs) = idle_after (cond (x.shortened + x.absorbed == 0) (n + 1) 0) xs
-idle_after n (answer w f (Err y) ∷ xs) = idle_after n xs
-idle_after n (withdraw w o ∷ xs) = idle_after n xs
-idle_after n (clear o ∷ xs) = idle_after n xs
-idle_after n (turn o ∷ xs) = idle_after n xs
+idle_after n (x ∷ xs) = idle_after (idle_next n x) xs
+
+-- after n idle rounds a round is fed only if the filter is not quiet yet
+abbrev pub Awaits : ℕ → Event → Type 0
+Awaits n (feed e (Ok x)) = n < quiet
+Awaits n (feed e (Err y)) = Unit {0}
+Awaits n (raise o) = Unit {0}
+Awaits n (answer w f o) = Unit {0}
+Awaits n (withdraw w o) = Unit {0}
+Awaits n (clear o) = Unit {0}
+Awaits n (turn o) = Unit {0}
+
+abbrev pub AwaitsQuiet : ℕ → List Event → Type 0
+AwaitsQuiet n [] = Unit {0}
+AwaitsQuiet n (x ∷ xs) = Awaits n x × AwaitsQuiet (idle_next n x) xs
 
 -- b is a and the calls ys
 pub record Adds (a : Account) (ys : List Event) (b : Account) : Type 0 where
@@ -73,13 +92,15 @@ module _ {P C : Type 0} (ports : PortOf P) (closings : ClosingOf C) where
     pub feeds : All (Feeds (λ e. Unit {0})) xs
     pub all : fed xs ≡ waves_of samples
 
-  -- feeds of 0, until the filter is quiet or the longest silence is over
+  -- feeds of 0, and none once the filter is quiet or the longest silence is over
   pub record Hush (b : Rig P C) (ys : List Event) (s : Silence) (c : Rig P C) : Type 0 where
     pub run : Run ports closings b ys c
     pub silent : All (Feeds (λ e. e ≡ pos 0)) ys
     pub rounds : s.rounds ≡ entries ys
     pub busy : s.busy ≡ busy ys
     pub idle : s.idle ≡ idle_after 0 ys
+    pub until : AwaitsQuiet 0 ys
+    pub few : s.rounds ≤ longest_silence
 
   pub record Spoken (a : Rig P C) (samples : List ℕ) (x : Account) (b : Rig P C) : Type 0 where
     pub calls : List Event
@@ -95,7 +116,6 @@ module _ {P C : Type 0} (ports : PortOf P) (closings : ClosingOf C) where
     pub calls : List Event
     pub hush : Hush b calls s c
     pub adds : Adds x calls y
-    pub few : entries calls ≤ longest_silence
     pub over : (s.rounds ≡ longest_silence) ⊎ (quiet ≤ s.idle)
 
   -- a rig is made of the port and the closing, fed the samples, then silence, and cleared
@@ -103,6 +123,7 @@ module _ {P C : Type 0} (ports : PortOf P) (closings : ClosingOf C) where
     pub made : Rig P C
     pub port : made.port ≡ p
     pub closing : made.closing ≡ k
+    pub fresh : Fresh (ports.reads p).stored made.tally
     pub speech : List Event
     pub spoken : Rig P C
     pub speaks : Speech made samples speech spoken
@@ -114,8 +135,8 @@ module _ {P C : Type 0} (ports : PortOf P) (closings : ClosingOf C) where
     pub page : Option Page
     pub ended : Rig P C
     pub ends : Run ports closings rested (clear (Ok drop) ∷ turns page) ended
-    pub num : r.num ≡ (ports.reads p).num
-    pub den : r.den ≡ (ports.reads p).den
+    pub num : r.ratio.num ≡ (ports.reads p).num
+    pub den : r.ratio.den ≡ (ports.reads p).den
     pub start : r.start ≡ (ports.reads p).stored
-    pub first : Weighs r.num r.den r.start speech (ports.reads spoken.port).stored r.spoken
-    pub last : Weighs r.num r.den r.start ((speech ++ hush) ++ (clear (Ok drop) ∷ turns page)) (ports.reads ended.port).stored r.ended
+    pub first : Weighs r.ratio.num r.ratio.den r.start speech (ports.reads spoken.port).stored r.spoken
+    pub last : Weighs r.ratio.num r.ratio.den r.start ((speech ++ hush) ++ (clear (Ok drop) ∷ turns page)) (ports.reads ended.port).stored r.ended

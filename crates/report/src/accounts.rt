@@ -1,6 +1,7 @@
 mod account;
 
 ghost use Rattle.std.specs.Prelude.{◌≡◌, ◌+◌, ◌-◌, ◌*◌, ◌^◌, ◌<◌, ◌≤◌, pos, ◌+ℤ◌, ◌-ℤ◌, ◌*ℤ◌, unsigned_abs};
+ghost use Rattle.wave.specs.Numbers.{sq};
 ghost use Rattle.wave.specs.Terms.{largest_number};
 ghost use Rattle.rig.specs.Limits.{most_square};
 ghost use Rattle.report.specs.Accounts.{Empty, CountsRound, CountsClear, Weighed};
@@ -21,15 +22,6 @@ pub struct Weighing {
     pub swing: i128,
     pub left: u128,
     pub right: i128,
-}
-
-// f² − r², added to a swing.
-fn swung(swing: i128, entries: u32, fallen: u64, risen: u64) -> i128
-    requires { (unsigned_abs swing ≤ entries * most_square) × ((fallen ≤ most_square) × (risen ≤ most_square)) }
-    ensures value { result ≡ swing +ℤ (pos fallen -ℤ pos risen) }
-    ensures bound { unsigned_abs result ≤ (entries + 1) * most_square }
-{
-    swing + (fallen as i128 - risen as i128)
 }
 
 // d x
@@ -71,17 +63,20 @@ impl Account {
         }
     }
 
+    // The swing and a round's share of it.
+    fn swung(self, round: Round) -> i128
+        ensures value { result ≡ self.swing +ℤ (pos (sq round.falling.value) -ℤ pos (sq round.rising.value)) }
+        ensures bound { unsigned_abs result ≤ (self.entries + 1) * most_square }
+    {
+        self.swing + (round.falling.square() as i128 - round.rising.square() as i128)
+    }
+
     // One round more.
     pub(crate) fn counted(self, round: Round) -> Account
         requires { self.entries + 1 < 2 ^ 32 }
         ensures { CountsRound self round result }
     {
-        let swing = swung(
-            self.swing,
-            self.entries,
-            round.falling.square(),
-            round.rising.square(),
-        );
+        let swing = self.swung(round);
         Account {
             entries: self.entries + 1,
             absorbed: self.absorbed + round.absorbed as u128,

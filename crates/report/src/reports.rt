@@ -1,4 +1,4 @@
-ghost use Rattle.std.specs.Prelude.{◌≡◌, ◌+◌, ◌^◌, ◌<◌, ◌≤◌, length, IfOk, MatchResult};
+ghost use Rattle.std.specs.Prelude.{◌≡◌, ◌+◌, ◌^◌, ◌<◌, ◌≤◌, length, codes, Some, IfOk, MatchResult};
 ghost use Rattle.report.specs.Reports.{longest_recording, longest_silence, Longer, Spoken, Rested, Reported, Fair};
 
 use crate::accounts::{Account, Weighing};
@@ -7,6 +7,9 @@ use pcm::wave_of;
 use port::Port;
 use rig::Round;
 use session::Session;
+use std::error::Error;
+use std::fmt;
+use wave::Ratio;
 
 /// The most bytes of samples that a report takes: 2³¹.
 pub const LONGEST_RECORDING: usize = 2147483648;
@@ -21,8 +24,18 @@ pub const QUIET: u32 = 256;
 #[derive(Clone, Copy, Debug, PartialEq)]
 pub struct TooLong;
 
+impl fmt::Display for TooLong {
+    ghost output = { λ _. Some (codes "the recording is too long") };
+
+    fn fmt<W: fmt::Write>(&self, f: &mut fmt::Formatter<W>) -> fmt::Result {
+        write!(f, "the recording is too long")
+    }
+}
+
+impl Error for TooLong {}
+
 /// A stretch of feeds of 0: how many rounds, how many of them shortened or absorbed something, and how many passed since the last that did.
-#[derive(Clone, Copy)]
+#[derive(Clone, Copy, Default)]
 pub struct Silence {
     pub rounds: u32,
     pub busy: u32,
@@ -33,8 +46,7 @@ pub struct Silence {
 /// after what was then left had been dropped.
 #[derive(Clone, Copy)]
 pub struct Report {
-    pub num: u32,
-    pub den: u32,
+    pub ratio: Ratio,
     pub start: u64,
     pub spoken: Weighing,
     pub silence: Silence,
@@ -47,11 +59,12 @@ fn speak<P: Port, C: Closing>(session: &mut Session<P, C>, samples: &[u8]) -> Ac
     ensures { Spoken P.Port C.Closing session.old.rig samples.now result session.new.rig }
 {
     let mut account = Account::empty();
-    for i in 0..samples.len() / 2 {
-        match session.feed(wave_of([samples[2 * i], samples[2 * i + 1]])) {
-            Ok(entry) => account = account.counted(entry.round),
-            Err(_) => unreachable(),
-        }
+    let (pairs, _) = samples.as_chunks();
+    for pair in pairs {
+        let Ok(entry) = session.feed(wave_of(*pair)) else {
+            unreachable()
+        };
+        account = account.counted(entry.round);
     }
     account
 }
@@ -62,18 +75,11 @@ impl Silence {
         requires { (self.rounds + 1 < 2 ^ 32) × ((self.busy ≤ self.rounds) × (self.idle ≤ self.rounds)) }
         ensures { Longer self round result }
     {
-        if round.shortened == 0 && round.absorbed == 0 {
-            Silence {
-                rounds: self.rounds + 1,
-                busy: self.busy,
-                idle: self.idle + 1,
-            }
-        } else {
-            Silence {
-                rounds: self.rounds + 1,
-                busy: self.busy + 1,
-                idle: 0,
-            }
+        let busy = round.shortened > 0 || round.absorbed > 0;
+        Silence {
+            rounds: self.rounds + 1,
+            busy: self.busy + u32::from(busy),
+            idle: if busy { 0 } else { self.idle + 1 },
         }
     }
 }
@@ -84,19 +90,13 @@ fn rest<P: Port, C: Closing>(session: &mut Session<P, C>, account: Account) -> (
     ensures { Rested P.Port C.Closing session.old.rig account result.0 result.1 session.new.rig }
 {
     let mut account = account;
-    let mut silence = Silence {
-        rounds: 0,
-        busy: 0,
-        idle: 0,
-    };
+    let mut silence = Silence::default();
     for _ in 0..LONGEST_SILENCE {
-        match session.feed(0) {
-            Ok(entry) => {
-                account = account.counted(entry.round);
-                silence = silence.after(entry.round);
-            }
-            Err(_) => unreachable(),
-        }
+        let Ok(entry) = session.feed(0) else {
+            unreachable()
+        };
+        account = account.counted(entry.round);
+        silence = silence.after(entry.round);
         if silence.idle >= QUIET {
             break;
         }
@@ -131,8 +131,7 @@ pub fn report_on<P: Port + Drop, C: BoundedClosing + Drop>(
         .cleared(dropped)
         .weighed(ratio, start, session.port().stored());
     Ok(Report {
-        num: ratio.num(),
-        den: ratio.den(),
+        ratio,
         start,
         spoken,
         silence,

@@ -6,7 +6,6 @@ mod parts;
 mod shown;
 mod told;
 
-use anyhow::anyhow;
 use assembly::Workspace;
 use panel::{prepare, source};
 use report::report_on;
@@ -28,8 +27,6 @@ fn run(rt: &HostRuntime) -> anyhow::Result<()> {
     parts::print_tree(rt, &text, &tree)?;
     let mut samples = Vec::new(rt.alloc());
     rt.stdin().read_to_end(&mut samples)?;
-    let Ok(report) = report_on(tree, source(), &samples) else {
-        return Err(anyhow!("the recording is too long"));
-    };
+    let report = report_on(tree, source(), &samples)?;
     shown::print_report(rt, &report)
 }

@@ -55,8 +55,8 @@ fn print_silence(rt: &HostRuntime, silence: &Silence, bound: u64) -> anyhow::Res
 }
 
 pub fn print_report(rt: &HostRuntime, report: &Report) -> anyhow::Result<()> {
-    let n = report.num;
-    let d = report.den;
+    let n = report.ratio.num();
+    let d = report.ratio.den();
     let start = report.start;
     println!(rt; "ratio n/d {n}/{d}, stored at the start {start}")?;
     print_balances(rt, &report.spoken, &report.ended)?;

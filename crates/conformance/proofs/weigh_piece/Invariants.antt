@@ -1,5 +1,5 @@
 use Rattle.std.proofs.Common.{length}
 use Rattle.conformance.proofs.weigh_piece.Given as goal
 
-abbrev pub decreases-loop-left : goal.decreases-loop-left
-decreases-loop-left l = length l.left.now
+abbrev pub decreases-loop-page : goal.decreases-loop-page
+decreases-loop-page l = length l.left

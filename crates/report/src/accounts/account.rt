@@ -1,6 +1,7 @@
 ghost use Rattle.std.specs.Prelude.{◌*◌, ◌^◌, ◌≤◌, unsigned_abs};
 ghost use Rattle.rig.specs.Limits.{most_square};
 
+// Kept: apart from the tally of a rig, whose sums are narrower: one type for both widths would need a trait of numbers with laws, for these two alone.
 /// The sums over a list of calls, as many pages as they fill: the accepted feeds and clears, and what they came to.
 #[derive(Clone, Copy)]
 pub struct Account {

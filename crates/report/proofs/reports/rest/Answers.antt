@@ -1,9 +1,11 @@
-use Rattle.std.proofs.Common.{refl, inl, inr, arith}
+use Rattle.std.proofs.Common.{inl, inr, arith}
 use Rattle.report.proofs.Speaking.{hushed_start, hushed_more, hushed_end}
 use Rattle.report.proofs.reports.rest.Goals as goal
 
 pub loop-init : goal.loop-init
-loop-init g c = (hushed_start _ _ _ _ _ refl refl refl, refl)
+loop-init g c =
+    let s = c.default-silence.ensures in
+    (hushed_start _ _ _ _ _ s.0 s.1.0 s.1.1, s.0, omega (arith, s.1.1))
 
 pub counted-account-requires : goal.counted-account-requires
 counted-account-requires g c =
@@ -17,14 +19,16 @@ after-silence-requires g c =
 
 pub loop-preserved : goal.loop-preserved
 loop-preserved g c =
-    let n = c.after-silence.ensures.rounds in
-    (hushed_more _ _ _ _ _ _ _ _ _ _ _ _ c.loop.invariant.0 c.in-Ok.ensures.0 c.counted-account.ensures c.after-silence.ensures, omega (arith, n, c.loop.invariant.1))
+    let I = c.loop.invariant in (
+      hushed_more _ _ _ _ _ _ _ _ _ _ _ _ I.2 (omega (arith, I.1)) I.0 c.in-Ok.ensures.0 c.counted-account.ensures c.after-silence.ensures,
+      omega (arith, c.after-silence.ensures.rounds, I.1),
+      omega arith,
+    )
 
 pub returns-after-loop : goal.returns-after-loop
-returns-after-loop g c = hushed_end _ _ _ _ _ _ _ (omega (arith, c.loop.invariant.1)) (inl (omega (arith, c.loop.invariant.1))) c.loop.invariant.0
+returns-after-loop g c = hushed_end _ _ _ _ _ _ _ (inl (omega (arith, c.loop.invariant.1))) c.loop.invariant.0
 
 pub returns-then-silence-ge-QUIET : goal.returns-then-silence-ge-QUIET
 returns-then-silence-ge-QUIET g c =
-    let n = c.after-silence.ensures.rounds in
-    let H = hushed_more _ _ _ _ _ _ _ _ _ _ _ _ c.loop.invariant.0 c.in-Ok.ensures.0 c.counted-account.ensures c.after-silence.ensures in
-    hushed_end _ _ _ _ _ _ _ (omega (arith, n, c.loop.invariant.1)) (inr (omega arith)) H
+    let I = c.loop.invariant in
+    hushed_end _ _ _ _ _ _ _ (inr (omega arith)) (hushed_more _ _ _ _ _ _ _ _ _ _ _ _ I.2 (omega (arith, I.1)) I.0 c.in-Ok.ensures.0 c.counted-account.ensures c.after-silence.ensures)
