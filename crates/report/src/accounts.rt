@@ -32,15 +32,6 @@ fn scaled(d: u32, x: u128) -> u128
     d as u128 * x
 }
 
-// d s
-fn started(d: u32, s: u64) -> i128
-    requires { d ≤ largest_number }
-    ensures value { result ≡ pos (d * s) }
-    ensures bound { unsigned_abs result ≤ 2 ^ 95 }
-{
-    (d as u128 * s as u128) as i128
-}
-
 // n w
 fn swung_by(n: u32, w: i128) -> i128
     requires { (n ≤ largest_number) × (unsigned_abs w ≤ 2 ^ 68) }
@@ -113,7 +104,7 @@ impl Account {
             shortened: self.shortened,
             swing: self.swing,
             left: scaled(ratio.den(), held),
-            right: started(ratio.den(), start) + swung_by(ratio.num(), self.swing),
+            right: scaled(ratio.den(), start as u128) as i128 + swung_by(ratio.num(), self.swing),
         }
     }
 }
