@@ -1,7 +1,7 @@
 -- A block, sample by sample.
-use Rattle.std.proofs.Common.{◌≡◌, ℕ, zero, suc, ◌+◌, ◌*◌, ◌/◌, ◌%◌, ◌<◌, ◌≤◌, false, List, [], ◌∷◌, ◌++◌, length, get_or, take, drop, set, ℤ, Ok, sym, refl, ap, ◌∙◌, subst, ap₂, append_assoc, arith, length-append, length-take, take_all, drop-cons, drop-drop}
+use Rattle.std.proofs.Common.{◌≡◌, ℕ, zero, suc, ◌+◌, ◌*◌, ◌/◌, ◌%◌, ◌<◌, ◌≤◌, false, List, [], ◌∷◌, ◌++◌, length, get_or, take, drop, ℤ, Ok, sym, refl, ap, ◌∙◌, subst, ap₂, append_assoc, arith, length-append, length-take, take_all, drop-drop}
 use Rattle.std.specs.Simd.{first_chunks}
-use Rattle.std.proofs.lemmas.List.{take_more, set_at, take-append-drop}
+use Rattle.std.proofs.lemmas.List.{take_more, take-append-drop}
 use Rattle.pcm.specs.Samples.{sample_wave, sample_bytes}
 use Rattle.port.specs.declared.meaning.Port.{Ghosts as PortOf}
 use Rattle.closing.specs.declared.meaning.Closing.{Ghosts as ClosingOf}
@@ -44,19 +44,6 @@ taken_two s i h =
     let e : 2 * (i + 1) ≡ 2 * i + 1 + 1 = omega arith in
     let l : 2 * i < length s = omega arith in
     ap (λ n. take n s) e ∙ take_more s (2 * i + 1) 0 h ∙ ap (λ (t : List ℕ). t ++ (get_or s (2 * i + 1) 0 ∷ [])) (take_more s (2 * i) 0 l) ∙ append_assoc (take (2 * i) s) _ _
-
--- two bytes written behind a front of n
-pub written_two : (p s : List ℕ) (n x y : ℕ) → length p ≡ n → n + 1 < length s → set (set (p ++ drop n s) n x) (n + 1) y ≡ (p ++ (x ∷ y ∷ [])) ++ drop (n + 1 + 1) s
-written_two p s n x y e h =
-    let a : n < length s = omega arith in
-    let f : drop n s ≡ get_or s n 0 ∷ (get_or s (suc n) 0 ∷ drop (suc (suc n)) s) =
-    drop-cons s n 0 a ∙ ap (λ (t : List ℕ). get_or s n 0 ∷ t) (drop-cons s (suc n) 0 (omega arith)) in
-    let g : set (p ++ drop n s) n x ≡ (p ++ (x ∷ [])) ++ (get_or s (suc n) 0 ∷ drop (suc (suc n)) s) =
-    ap (λ (t : List ℕ). set (p ++ t) n x) f ∙ set_at p _ _ x n e ∙ sym (append_assoc p (x ∷ []) _) in
-    let l : length (p ++ (x ∷ [])) ≡ n + 1 = length-append p (x ∷ []) ∙ omega arith in
-    let k : suc (suc n) ≡ n + 1 + 1 = omega arith in
-    ap (λ (t : List ℕ). set t (n + 1) y) g ∙ set_at (p ++ (x ∷ [])) _ _ y (n + 1) l ∙ sym (append_assoc (p ++ (x ∷ [])) (y ∷ []) _)
-    ∙ ap₂ (λ (t : List ℕ) m. t ++ drop m s) (append_assoc p (x ∷ []) (y ∷ [])) k
 
 module _ {P C : Type 0} (ports : PortOf P) (closings : ClosingOf C) where
   pub run_more : {a b c : Rig P C} {xs ys : List Event} → Run ports closings a xs b → Run ports closings b ys c → Run ports closings a (xs ++ ys) c
