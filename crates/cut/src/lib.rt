@@ -1,10 +1,13 @@
 // Cuts a text into lines and a line into fields, each a span of the text.
 #![tactic(auto)]
 
-ghost use Rattle.std.specs.Prelude.{◌≡◌, ◌+◌, ◌-◌, ◌<◌, ◌≤◌, [], length, MatchOption};
+ghost use Rattle.std.specs.Prelude.{◌≡◌, ◌+◌, ◌-◌, ◌<◌, ◌≤◌, [], length, IfOk, MatchOption, string_bytes};
+ghost use Rattle.std.specs.Str.{IsUtf8};
+ghost use Rattle.std.specs.Str.Lossy.{utf8_lossy};
 ghost use Rattle.cut.specs.Cuts.{blank, bytes, stop as stop_of, LineTo, AllBlank, FieldAt, FirstFields};
 
 use fixed::Fixed;
+use std::alloc::{AllocError, Global};
 
 // A part of a text: the place of its first byte, counted from 0, and how many bytes it has.
 #[derive(Clone, Copy)]
@@ -27,6 +30,14 @@ impl Span {
             return rest;
         }
         &rest[..len]
+    }
+
+    // These bytes as a String of its own, with U+FFFD for what is no UTF-8.
+    pub fn text(self, heap: Global, text: &[u8]) -> Result<String, AllocError>
+        ensures valid { IfOk result (λ t. IsUtf8 (bytes text.now self) → string_bytes t ≡ bytes text.now self) }
+        ensures lossy { IfOk result (λ t. string_bytes t ≡ utf8_lossy (bytes text.now self)) }
+    {
+        String::from_utf8_lossy(heap, self.of(text))
     }
 }
 
@@ -86,4 +97,17 @@ pub fn fields_of(text: &[u8], line: Span) -> Fixed<Span, 5>
         from = field.place + field.len;
     }
     found
+}
+
+#[cfg(test)]
+mod tests {
+    use super::*;
+
+    #[test]
+    fn a_name_as_the_text_has_it(rt: HostRuntime) -> Result<(), AllocError> {
+        let name = Span { place: 5, len: 2 };
+        let told = name.text(rt.alloc(), b"door\nR1 b 0 600\n")?;
+        assert_eq!(rt; told.as_str(), "R1");
+        Ok(())
+    }
 }

@@ -1,7 +1,6 @@
 // Prints what a listing says: its port and its elements with their nodes and scaled values, or why it is refused.
 #![tactic(auto)]
 
-use cut::Span;
 use reader::{Listing, NodeNumber, read};
 use std::alloc::{AllocError, Global};
 use std::{env, fs, io};
@@ -16,27 +15,22 @@ struct Sheet<'a> {
 }
 
 impl Sheet<'_> {
-    // A name as the text has it.
-    fn name(&self, name: Span) -> Result<String, AllocError> {
-        String::from_utf8_lossy(self.heap, name.of(self.text))
-    }
-
     fn node(&self, number: NodeNumber) -> Result<String, AllocError> {
         match self.listing.nodes.as_slice().get(number.index) {
-            Some(node) => self.name(node.name),
+            Some(node) => node.name.text(self.heap, self.text),
             None => Ok(String::new(self.heap)),
         }
     }
 
     fn print(&self, rt: &HostRuntime) -> io::Result<()> {
         let port = self.listing.port;
-        let name = self.name(port.name)?;
+        let name = port.name.text(self.heap, self.text)?;
         let from = self.node(port.ends.from)?;
         let to = self.node(port.ends.to)?;
         println!(rt; "port {name} {from} {to}")?;
         for element in self.listing.elements.as_slice() {
             let kind = element.kind.word();
-            let name = self.name(element.name)?;
+            let name = element.name.text(self.heap, self.text)?;
             let from = self.node(element.ends.from)?;
             let to = self.node(element.ends.to)?;
             let value = element.value.get();

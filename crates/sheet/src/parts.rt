@@ -1,16 +1,10 @@
 // The elements of a listing with their weights, and its tree.
 use adaptor::Way;
-use cut::Span;
 use panel::{RATE, UNIT};
 use reader::read;
 use std::alloc::{AllocError, Global};
 use tree::{ListingTree, Step};
 use weights::Scale;
-
-// A name as the text has it.
-fn name_of(heap: Global, text: &[u8], name: Span) -> Result<String, AllocError> {
-    String::from_utf8_lossy(heap, name.of(text))
-}
 
 pub fn print_elements(rt: &HostRuntime, text: &[u8]) -> anyhow::Result<()> {
     let Ok(listing) = read(text) else {
@@ -20,7 +14,7 @@ pub fn print_elements(rt: &HostRuntime, text: &[u8]) -> anyhow::Result<()> {
         return Ok(());
     };
     for element in listing.elements.as_slice() {
-        let name = name_of(rt.alloc(), text, element.name)?;
+        let name = element.name.text(rt.alloc(), text)?;
         let kind = element.kind.word();
         let value = element.value.get();
         let unit = element.kind.unit();
@@ -36,7 +30,7 @@ fn element_name(heap: Global, text: &[u8], index: u32) -> Result<String, AllocEr
         return Ok(String::new(heap));
     };
     match listing.elements.as_slice().get(index as usize) {
-        Some(found) => name_of(heap, text, found.name),
+        Some(found) => found.name.text(heap, text),
         None => Ok(String::new(heap)),
     }
 }
