@@ -6,6 +6,7 @@ use crate::text::Line;
 use rig::Page;
 use told::Tells;
 
+// Kept: two numbers and no Ratio, which is in lowest terms: every two numbers make a line.
 /// A page's line: entries, the two numbers of the port's ratio, the energy stored at its start and at its end, absorbed, dropped, swing, shortened.
 pub fn page_line(num: u32, den: u32, page: Page) -> Line
     ensures { Holds (line_of (page_words num den page)) result }
