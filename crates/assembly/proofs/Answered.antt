@@ -1,16 +1,19 @@
 -- From what the parts of assembling answer to what it answers.
-use Rattle.std.proofs.Common.{◌≡◌, ℕ, ◌<◌, true, false, List, length, get_or, is_some, Some, None, Option, sym, ap, ◌∙◌, subst, inl, inr, zero-le, arith}
-use Rattle.std.proofs.lemmas.Bool.Decides.{leb_tells}
+use Rattle.std.proofs.Common.{◌≡◌, ℕ, ◌<◌, ◌==◌, Bool, true, false, List, length, get_or, is_some, Some, None, Option, sym, ap, ◌∙◌, subst, inl, inr, zero-le, arith}
+use Rattle.std.proofs.lemmas.Bool.Decides.{leb_tells, nat_tests}
 use Rattle.reader.specs.Answers as reader
 use Rattle.reader.specs.declared.Element.{Element}
 use Rattle.reader.specs.declared.Listing.{Listing}
 use Rattle.weights.specs.Limits.{Scaled}
+use Rattle.weights.specs.declared.scales.Scale.{Scale}
+use Rattle.tree.specs.Models.{Model}
+use Rattle.net.specs.Reductions.{Edge, EndsDown}
 use Rattle.net.specs.declared.wires.Wire.{Wire}
 use Rattle.net.proofs.Unique.{one_answer}
 use Rattle.assembly.specs.Branches.{way_for, Joins, Refused}
-use Rattle.assembly.specs.Beginnings.{Earless, EarIs}
-use Rattle.assembly.specs.Inner.{Ungrown}
-use Rattle.assembly.specs.Assemblies.{port_of, Refuses, OneEnd}
+use Rattle.assembly.specs.Beginnings.{Begins, Earless, EarIs}
+use Rattle.assembly.specs.Inner.{GrownFrom, Ungrown}
+use Rattle.assembly.specs.Assemblies.{port_of, Begun, Refuses, OneEnd}
 use Rattle.assembly.specs.declared.faults.AssemblyFault.{AssemblyFault}
 use Rattle.assembly.specs.declared.faults.AssemblyFault.TheVariants.{Reading, OutOfRange, BadWeight, Irreducible, TooLarge, NoEar}
 use Rattle.assembly.proofs.OneTree.{one_tree, not_both}
@@ -19,19 +22,54 @@ use Rattle.assembly.proofs.Begun.{blank}
 pub one_end : OneEnd
 one_end port bs = one_answer Joins Refused port (λ c a b m n. one_tree (way_for c) a b m n) (λ c a b m. not_both (way_for c) a b m) bs
 
-pub moved : (P : ℕ → ℕ → List Element → Wire → Type 0) {r r' u u' : ℕ} {l l' : List Element} {w w' : Wire} → r ≡ r' → u ≡ u' → l ≡ l' → w ≡ w' → P r u l w → P r' u' l' w'
-moved P {r} {r'} {u} {u'} {l} {l'} {w} {w'} a b c d x =
-    subst (λ (y : Wire). P r' u' l' y) d (subst (λ (y : List Element). P r' u' y w) c (subst (λ (y : ℕ). P r' y l w) b (subst (λ (y : ℕ). P y u l w) a x)))
+-- what is known once the elements of a listing that was read are to become branches
+pub record Ready (t name : List ℕ) (rate unit : ℕ) (d : Listing) (ear : Option ℕ) (s : Scale) (es : List Element) (port : Wire) : Type 0 where
+  pub read : reader.Reads t d
+  pub hertz : s.rate ≡ rate
+  pub siemens : s.unit ≡ unit
+  pub all : es ≡ d.elements
+  pub ends : port ≡ port_of d
+  pub eared : EarIs t es name ear
 
-pub refused : (t name : List ℕ) (rate unit : ℕ) (d : Listing) (ear : Option ℕ) (f : AssemblyFault) → reader.Reads t d → Scaled rate unit → EarIs t d.elements name ear → Ungrown rate unit ear d.elements (port_of d) f → Refuses t rate unit name f
-refused t name rate unit d ear (Reading g) r s e u = absurd u
-refused t name rate unit d ear OutOfRange r s e u = absurd u
-refused t name rate unit d ear (BadWeight p) r s e u = (d, r, s, u)
-refused t name rate unit d ear (TooLarge p) r s e u = (d, u.0, record { read = r; scaled = s; ear = ear; eared = e; begins = u.1 }, u.2)
-refused t name rate unit d ear Irreducible r s e u = (d, u.0, record { read = r; scaled = s; ear = ear; eared = e; begins = u.1 }, u.2)
-refused t name rate unit d ear NoEar r s e u = absurd u
+moved : {t name : List ℕ} {rate unit : ℕ} {d : Listing} {ear : Option ℕ} {s : Scale} {es : List Element} {port : Wire} (P : ℕ → ℕ → List Element → Wire → Type 0) → Ready t name rate unit d ear s es port → P s.rate s.unit es port → P rate unit d.elements (port_of d)
+moved {t} {name} {rate} {unit} {d} {ear} {s} {es} {port} P k x =
+    subst (λ (y : Wire). P rate unit d.elements y) k.ends (subst (λ (y : List Element). P rate unit y port) k.all (subst (λ (y : ℕ). P rate y es port) k.siemens (subst (λ (y : ℕ). P y s.unit es port) k.hertz x)))
+
+pub heard : {t name : List ℕ} {rate unit : ℕ} {d : Listing} {ear : Option ℕ} {s : Scale} {es : List Element} {port : Wire} → Ready t name rate unit d ear s es port → EarIs t d.elements name ear
+heard {t} {name} {rate} {unit} {d} {ear} {s} {es} {port} k = moved (λ r u l w. EarIs t l name ear) k k.eared
+
+begun : {t name : List ℕ} {rate unit : ℕ} {d : Listing} {ear : Option ℕ} {s : Scale} {es : List Element} {port : Wire} → Ready t name rate unit d ear s es port → (bs : List (Edge Model)) → Begins rate unit ear d.elements bs → Begun t rate unit name d bs
+begun {t} {name} {rate} {unit} {d} {ear} {s} {es} {port} k bs b = record {
+  read = k.read;
+  scaled = moved (λ r u l w. Scaled r u) k (s.fast.0, s.fast.1, s.fine.0, s.fine.1);
+  ear = ear;
+  eared = heard k;
+  begins = b;
+}
+
+pub grown : {t name : List ℕ} {rate unit : ℕ} {d : Listing} {ear : Option ℕ} {s : Scale} {es : List Element} {port : Wire} (m : Model) → Ready t name rate unit d ear s es port → GrownFrom s.rate s.unit ear es port m → (bs : List (Edge Model)) × Begun t rate unit name d bs × EndsDown Joins Refused (port_of d) bs m
+grown {t} {name} {rate} {unit} {d} {ear} {s} {es} {port} m k g =
+    let h : GrownFrom rate unit ear d.elements (port_of d) m = moved (λ r u l w. GrownFrom r u ear l w m) k g in
+    (h.branches, begun k h.branches h.begins, h.down)
+
+told : {t name : List ℕ} {rate unit : ℕ} {d : Listing} {ear : Option ℕ} {s : Scale} {es : List Element} {port : Wire} (f : AssemblyFault) → Ready t name rate unit d ear s es port → Ungrown rate unit ear d.elements (port_of d) f → Refuses t rate unit name f
+told (Reading g) k u = absurd u
+told OutOfRange k u = absurd u
+told {t} {name} {rate} {unit} {d} {ear} {s} {es} {port} (BadWeight p) k u = (d, k.read, moved (λ r u l w. Scaled r u) k (s.fast.0, s.fast.1, s.fine.0, s.fine.1), u)
+told {t} {name} {rate} {unit} {d} {ear} {s} {es} {port} (TooLarge p) k u = (d, u.0, begun k u.0 u.1, u.2)
+told {t} {name} {rate} {unit} {d} {ear} {s} {es} {port} Irreducible k u = (d, u.0, begun k u.0 u.1, u.2)
+told NoEar k u = absurd u
+
+pub refused : {t name : List ℕ} {rate unit : ℕ} {d : Listing} {ear : Option ℕ} {s : Scale} {es : List Element} {port : Wire} (f : AssemblyFault) → Ready t name rate unit d ear s es port → Ungrown s.rate s.unit ear es port f → Refuses t rate unit name f
+refused {t} {name} {rate} {unit} {d} {ear} {s} {es} {port} f k u = told f k (moved (λ r u l w. Ungrown r u ear l w f) k u)
 
 -- ---- the ear
+pub named : (empty : Bool) (name : List ℕ) → empty ≡ (length name == 0) → empty ≡ false → 0 < length name
+named empty name h n = grind (arith, nat_tests)
+
+pub unnamed : (empty : Bool) (name : List ℕ) → empty ≡ (length name == 0) → empty ≡ true → 0 < length name → ⊥
+unnamed empty name h n lt = grind (arith, nat_tests)
+
 pub no_ear : (t : List ℕ) (es : List Element) (name : List ℕ) (ear : Option ℕ) → EarIs t es name ear → is_some ear ≡ false → 0 < length name → Earless t es name
 no_ear t es name None e n lt = elim e [ inl x ↦ absurd (let no : ⊥ = omega (arith, x, lt) in no) | inr x ↦ x ]
 no_ear t es name (Some i) e n lt = absurd (let z : ◌≡◌ {A = ℕ} 0 1 = cc in let no : ⊥ = omega arith in no)

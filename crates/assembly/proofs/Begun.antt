@@ -1,11 +1,9 @@
 -- The leaves of a listing's elements.
-use Rattle.std.proofs.Common.{◌≡◌, ℕ, ◌+◌, ◌<◌, ◌≤◌, Bool, cond, ◌⊎◌, List, [], ◌∷◌, ◌++◌, length, get_or, Some, None, Option, sym, refl, ap, ◌∙◌, subst, inl, inr, arith, below_more}
+use Rattle.std.proofs.Common.{◌≡◌, ℕ, ◌+◌, ◌<◌, ◌≤◌, Bool, cond, List, [], ◌∷◌, ◌++◌, length, get_or, eqb, Some, None, Option, sym, refl, ap, ◌∙◌, subst, arith, below_more}
+use Rattle.std.specs.Option.{option_eq}
 use Rattle.std.proofs.lemmas.List.{length-map, map_push, get_or_append_left, get_or_push, get_or_default}
 use Rattle.std.proofs.lemmas.List.Sums.{sum_by_push}
 use Rattle.std.proofs.lemmas.Bool.Decides.{nat_tests}
-use Rattle.wave.specs.Refusals.{NoWeight}
-use Rattle.wave.specs.declared.weights.WeightRefusal.{WeightRefusal}
-use Rattle.wave.specs.declared.weights.WeightRefusal.TheVariants as refusals
 use Rattle.values.specs.declared.Kind.{Kind}
 use Rattle.values.specs.declared.Kind.TheVariants.{Resistor, Capacitor, Coil}
 use Rattle.values.proofs.OneValue.{some_value}
@@ -16,12 +14,9 @@ use Rattle.tree.specs.declared.elements.Body.{Body}
 use Rattle.tree.specs.declared.elements.Body.TheVariants.{Store, Resist}
 use Rattle.net.specs.Reductions.{Edge}
 use Rattle.assembly.specs.Branches.{edge, edges}
-use Rattle.assembly.specs.Beginnings.{BodyIs, hears, BeginsAs, Outside}
+use Rattle.assembly.specs.Beginnings.{BodyIs, hears, BeginsAs}
 use Rattle.assembly.specs.Inner.{sizes, ears, passed}
 use Rattle.assembly.specs.declared.branches.Branch.{Branch}
-
-pub no_weight : (w : ℕ) (r : WeightRefusal) → NoWeight w r → Outside w
-no_weight w refusals.Outside h = h
 
 -- what stands in for an element past the end
 abbrev pub blank : Element
@@ -40,11 +35,9 @@ body_ears Capacitor w ear (Store c) h = let e : (body_reads (Store c)).ears ≡ 
 body_ears Coil w ear (Resist r) h = absurd h
 body_ears Coil w ear (Store c) h = let e : (body_reads (Store c)).ears ≡ 0 = refl in omega (arith, e)
 
-pub other_kind : (k : Kind) → (k ≡ Capacitor) ⊎ (k ≡ Coil) → k ≡ Resistor → ⊥
-other_kind k s r = elim s [
-  | inl x ↦ (let y : Capacitor ≡ Resistor = sym x ∙ r in let z : ◌≡◌ {A = ℕ} 0 1 = cc in omega arith)
-  | inr x ↦ (let y : Coil ≡ Resistor = sym x ∙ r in let z : ◌≡◌ {A = ℕ} 0 1 = cc in omega arith)
-]
+pub is_hears : (ear : Option ℕ) (k : ℕ) → option_eq eqb ear (Some k) ≡ hears ear k
+is_hears None k = refl
+is_hears (Some i) k = refl
 
 passed_more : (ear : Option ℕ) (k s x : ℕ) → s ≤ passed ear k → x ≤ cond (hears ear k) 1 0 → s + x ≤ passed ear (k + 1)
 passed_more None k s x a b = omega arith
@@ -62,18 +55,18 @@ none_yet (b ∷ bs) n = absurd (let no : ⊥ = omega arith in no)
 edges_more : (bs ws : List Branch) (m : Branch) → ws ≡ bs ++ m ∷ [] → edges ws ≡ edges bs ++ edge m ∷ []
 edges_more bs ws m put = ap edges put ∙ map_push edge bs m
 
-pub more_begin : (rate unit : ℕ) (ear : Option ℕ) (es : List Element) (bs ws : List Branch) (k : ℕ) (m : Branch) → k < length es → length bs ≡ k → ws ≡ bs ++ m ∷ []
+pub more_begin : (rate unit : ℕ) (ear : Option ℕ) (es : List Element) (bs ws : List Branch) (k : ℕ) (x : Element) (m : Branch) → k < length es → x ≡ get_or es k x → length bs ≡ k → ws ≡ bs ++ m ∷ []
     → ((j : ℕ) (e : Element) (b : Edge Model) → j < k → BeginsAs rate unit ear j (get_or es j e) (get_or (edges bs) j b))
-    → BeginsAs rate unit ear k (get_or es k blank) (edge m)
+    → BeginsAs rate unit ear k x (edge m)
     → (j : ℕ) (e : Element) (b : Edge Model) → j < k + 1 → BeginsAs rate unit ear j (get_or es j e) (get_or (edges ws) j b)
-more_begin rate unit ear es bs ws k m lt n put before here j e b h =
+more_begin rate unit ear es bs ws k x m lt is n put before here j e b h =
     let whole = edges_more bs ws m put in
     let long = length-map bs edge in
     let P : ℕ → Type 0 = λ j. (e : Element) (b : Edge Model) → BeginsAs rate unit ear j (get_or es j e) (get_or (edges ws) j b) in
     below_more P k
-    (λ j h e b. subst (λ (x : Edge Model). BeginsAs rate unit ear j (get_or es j e) x) (sym (ap (λ l. get_or l j b) whole ∙ get_or_append_left (edges bs) (edge m ∷ []) b j (omega (arith, h)))) (before j e b h))
-    (λ e b. subst (λ (x : Edge Model). BeginsAs rate unit ear k (get_or es k e) x) (sym (ap (λ l. get_or l k b) whole ∙ get_or_push (edges bs) (edge m) b k (long ∙ n)))
-    (subst (λ (y : Element). BeginsAs rate unit ear k y (edge m)) (get_or_default es k blank e lt) here))
+    (λ j h e b. subst (λ (y : Edge Model). BeginsAs rate unit ear j (get_or es j e) y) (sym (ap (λ l. get_or l j b) whole ∙ get_or_append_left (edges bs) (edge m ∷ []) b j (omega (arith, h)))) (before j e b h))
+    (λ e b. subst (λ (y : Edge Model). BeginsAs rate unit ear k (get_or es k e) y) (sym (ap (λ l. get_or l k b) whole ∙ get_or_push (edges bs) (edge m) b k (long ∙ n)))
+    (subst (λ (y : Element). BeginsAs rate unit ear k y (edge m)) (is ∙ get_or_default es k x e lt) here))
     j h e b
 
 leaf_reads : (rate unit : ℕ) (ear : Option ℕ) (k : ℕ) (e : Element) (x : Edge Model) → BeginsAs rate unit ear k e x → ((reads x.what).size ≡ 1) × ((reads x.what).ears ≤ cond (hears ear k) 1 0)

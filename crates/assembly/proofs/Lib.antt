@@ -3,3 +3,4 @@ pub mod OneTree
 pub mod Stepped
 pub mod Begun
 pub mod Answered
+pub mod Passed

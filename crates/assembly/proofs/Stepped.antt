@@ -1,8 +1,8 @@
 -- What taking two branches out and putting one in does to the list of branches.
-use Rattle.std.proofs.Common.{◌≡◌, ℕ, ◌+◌, ◌<◌, ◌≤◌, true, false, List, [], ◌∷◌, map, length, get_or, set, sym, refl, ap, ◌∙◌, subst, arith}
+use Rattle.std.proofs.Common.{◌≡◌, ℕ, ◌+◌, ◌<◌, ◌≤◌, List, [], ◌∷◌, map, length, get_or, set, sym, refl, ap, ◌∙◌, subst, arith}
 use Rattle.std.specs.List.{remove, insert}
 use Rattle.std.proofs.lemmas.List.{length-map, map-set, get_or-map}
-use Rattle.std.proofs.lemmas.List.Edits.{get_or-remove_below}
+use Rattle.std.proofs.lemmas.List.Edits.{get_or-remove_below, length-remove}
 use Rattle.port.specs.Meaning.{largest_size}
 use Rattle.adaptor.specs.Joins.{Parted}
 use Rattle.adaptor.specs.declared.ways.Way.{Way}
@@ -11,9 +11,9 @@ use Rattle.tree.specs.Models.{Model, reads}
 use Rattle.tree.specs.Growth.{Grown, Ungrown}
 use Rattle.tree.specs.declared.grown.Refusal.{Refusal}
 use Rattle.tree.specs.declared.grown.Refusal.TheVariants.{NoRoom, NoJoint}
-use Rattle.net.specs.Wires.{same_ends, at, far, nowhere}
+use Rattle.net.specs.Wires.{at, far, nowhere}
 use Rattle.net.specs.Choices.{Takes, Stuck, chosen_pair, ends_of}
-use Rattle.net.specs.Reductions.{Edge, wires, Stands, Step, Steps, EndsOver, Whole}
+use Rattle.net.specs.Reductions.{Edge, wires, Stands, Step, Steps, EndsOver}
 use Rattle.net.specs.declared.wires.Wire.{Wire}
 use Rattle.net.specs.declared.wires.Pair.{Pair}
 use Rattle.net.specs.declared.wires.Choice.{Choice}
@@ -21,7 +21,7 @@ use Rattle.net.specs.declared.wires.Choice.TheVariants.{Twins, Chain}
 use Rattle.assembly.specs.Branches.{edge, edges, way_for, Joins, Refused}
 use Rattle.assembly.specs.Inner.{sizes, ears, Fit, ends_after_join, Replaced, Halted}
 use Rattle.assembly.specs.declared.branches.Branch.{Branch}
-use Rattle.assembly.proofs.Sums.{put_back, map_removed, sum_step, sum_two}
+use Rattle.assembly.proofs.Sums.{put_back, map_removed, sum_removed, sum_step, sum_two}
 use Rattle.assembly.proofs.OneTree.{shown}
 
 -- ---- why two trees are not joined
@@ -48,6 +48,18 @@ pub record TakenOut (xs ys zs : List Branch) (i j : ℕ) (a b : Branch) : Type 0
   pub less : ys ≡ remove xs j
   pub former : a ≡ get_or ys i a
   pub least : zs ≡ remove ys i
+
+-- the pair that they stand at is that of the choice
+pub taken_out : {xs ys zs : List Branch} {a b : Branch} (c : Choice) (p : Pair) → p ≡ chosen_pair c → (chosen_pair c).low < (chosen_pair c).high → (chosen_pair c).high < length xs
+    → b ≡ get_or xs p.high b → ys ≡ remove xs p.high → a ≡ get_or ys p.low a → zs ≡ remove ys p.low → TakenOut xs ys zs (chosen_pair c).low (chosen_pair c).high a b
+taken_out {xs} {ys} {zs} {a} {b} c p e order within later less former least = record {
+  order = order;
+  within = within;
+  later = later ∙ ap (λ q. get_or xs q.high b) e;
+  less = less ∙ ap (λ q. remove xs q.high) e;
+  former = former ∙ ap (λ q. get_or ys q.low a) e;
+  least = least ∙ ap (λ q. remove ys q.low) e;
+}
 
 pub stands_low : {xs ys zs : List Branch} {i j : ℕ} {a b : Branch} → TakenOut xs ys zs i j a b → Stands (edges xs) i (edge a)
 stands_low {xs} {ys} {zs} {i} {j} {a} {b} o d =
@@ -143,29 +155,42 @@ halts port c es fs p came t h = record {
 }
 
 -- ---- a join of two that were taken out
-pub replaced : {xs ys zs ws : List Branch} {a b : Branch} (c : Choice) (p : Pair) (m : Branch) → p ≡ chosen_pair c → TakenOut xs ys zs p.low p.high a b → m.wire ≡ ends_after_join c a.wire b.wire → m.place ≡ a.place → Joins c (edge a).what (edge b).what (edge m).what → ws ≡ insert zs p.low m → Replaced c (edges xs) (edges ws)
-replaced {xs} {ys} {zs} {ws} {a} {b} c p m e o wire place joins put =
-    let o' : TakenOut xs ys zs (chosen_pair c).low (chosen_pair c).high a b = subst (λ q. TakenOut xs ys zs q.low q.high a b) e o in
-    let put' : ws ≡ insert zs (chosen_pair c).low m = put ∙ ap (λ q. insert zs q.low m) e in
-    record {
-      a = edge a;
-      b = edge b;
-      low = stands_low o';
-      high = stands_high o';
-      made = (edge m).what;
-      joins = joins;
-      after = after_put m o' put' ∙ (λ k. remove (set (edges xs) (chosen_pair c).low (record { what = (edge m).what; wire = wire k; place = place k })) (chosen_pair c).high);
-    }
+pub replaced : {xs ys zs ws : List Branch} {a b : Branch} (c : Choice) (p : Pair) (m : Branch) → p ≡ chosen_pair c → TakenOut xs ys zs (chosen_pair c).low (chosen_pair c).high a b
+    → m.wire ≡ ends_after_join c a.wire b.wire → m.place ≡ a.place → Joins c (edge a).what (edge b).what (edge m).what → ws ≡ insert zs p.low m → Replaced c (edges xs) (edges ws)
+replaced {xs} {ys} {zs} {ws} {a} {b} c p m e o wire place joins put = record {
+  a = edge a;
+  b = edge b;
+  low = stands_low o;
+  high = stands_high o;
+  made = (edge m).what;
+  joins = joins;
+  after = after_put m o (put ∙ ap (λ q. insert zs q.low m) e) ∙ (λ k. remove (set (edges xs) (chosen_pair c).low (record { what = (edge m).what; wire = wire k; place = place k })) (chosen_pair c).high);
+}
 
-pub halted : {xs ys zs : List Branch} {a b : Branch} (c : Choice) (p : Pair) → p ≡ chosen_pair c → TakenOut xs ys zs p.low p.high a b → Refused c (edge a).what (edge b).what → Halted c (edges xs) a.place
-halted {xs} {ys} {zs} {a} {b} c p e o refused =
-    let o' : TakenOut xs ys zs (chosen_pair c).low (chosen_pair c).high a b = subst (λ q. TakenOut xs ys zs q.low q.high a b) e o in
-    record { a = edge a; b = edge b; low = stands_low o'; high = stands_high o'; refused = refused; place = refl }
+pub halted : {xs ys zs : List Branch} {a b : Branch} (c : Choice) → TakenOut xs ys zs (chosen_pair c).low (chosen_pair c).high a b → Refused c (edge a).what (edge b).what → Halted c (edges xs) a.place
+halted {xs} {ys} {zs} {a} {b} c o refused = record { a = edge a; b = edge b; low = stands_low o; high = stands_high o; refused = refused; place = refl }
 
 pub taken_fit : {xs ys zs : List Branch} {i j : ℕ} {a b : Branch} → TakenOut xs ys zs i j a b → Fit (edges xs) → ((reads (edge a).what).size + (reads (edge b).what).size ≤ largest_size) × ((reads (edge a).what).ears + (reads (edge b).what).ears ≤ 1)
 taken_fit {xs} {ys} {zs} {i} {j} {a} {b} o fit =
     let n = length-map xs edge in
     two_fit (edges xs) i j (edge a) (edge b) fit o.order (omega (arith, o.within)) (stands_low o) (stands_high o)
+
+-- what is left of the branches fits
+fewer_fit : (es : List (Edge Model)) (k : ℕ) (d : Edge Model) → k < length es → Fit es → Fit (remove es k)
+fewer_fit es k d h fit =
+    let s = sum_removed (λ e. (reads e.what).size) es k d h in
+    let t = sum_removed (λ e. (reads e.what).ears) es k d h in
+    (omega (arith, s, fit.0), omega (arith, t, fit.1))
+
+pub left_fit : {xs ys zs : List Branch} {i j : ℕ} {a b : Branch} → TakenOut xs ys zs i j a b → Fit (edges xs) → Fit (edges zs)
+left_fit {xs} {ys} {zs} {i} {j} {a} {b} o fit =
+    let y : edges ys ≡ remove (edges xs) j = ap edges o.less ∙ map_removed edge xs j in
+    let z : edges zs ≡ remove (remove (edges xs) j) i = ap edges o.least ∙ map_removed edge ys i ∙ ap (λ l. remove l i) y in
+    let n = length-map xs edge in
+    let hi : j < length (edges xs) = omega (arith, n, o.within) in
+    let m = length-remove (edges xs) j hi in
+    let lo : i < length (remove (edges xs) j) = omega (arith, m, hi, o.order) in
+    subst Fit (sym z) (fewer_fit (remove (edges xs) j) i (edge a) lo (fewer_fit (edges xs) j (edge b) hi fit))
 
 -- ---- what is chosen of the branches in the code
 pub taken_edges : (bs ys : List Branch) (port : Wire) (c : Choice) → ys ≡ bs → Takes (map (λ b. b.wire) ys) port c → Takes (wires (edges bs)) port c
@@ -181,25 +206,5 @@ pair_within bs port c t =
     let n = length-map bs edge in
     (o.0, omega (arith, o.1))
 
-pub next_fit : (bs : List Branch) (port : Wire) (c : Choice) (fs : List (Edge Model)) → Takes (wires (edges bs)) port c → Fit (edges bs) → Replaced c (edges bs) fs → Fit fs
-next_fit bs port c fs t fit r =
-    let o = pair_within bs port c t in
-    let n = length-map bs edge in
-    step_fits c (edges bs) fs o.0 (omega (arith, o.1)) fit r
-
--- ---- the last branch
-pub one_left : (bs : List Branch) (r : Branch) → length bs ≡ 1 → r ≡ get_or bs 0 r → edges bs ≡ edge r ∷ []
-one_left [] r n e = absurd (let no : ⊥ = omega arith in no)
-one_left (b ∷ []) r n e = λ k. edge (sym e k) ∷ []
-one_left (b ∷ x ∷ xs) r n e = absurd (let no : ⊥ = omega arith in no)
-
-pub not_whole : (bs : List Branch) (r : Branch) (port : Wire) → edges bs ≡ edge r ∷ [] → same_ends r.wire port ≡ false → (m : Model) → Whole Joins Refused port (edges bs) m → ⊥
-not_whole bs r port e f m w =
-    let cells : w.last ∷ [] ≡ edge r ∷ [] = sym w.alone ∙ e in
-    let last : w.last ≡ edge r = cc in
-    let t : same_ends r.wire port ≡ true = ap (λ x. same_ends x.wire port) (sym last) ∙ w.ends in
-    let z : true ≡ false = sym t ∙ f in
-    let n : ◌≡◌ {A = ℕ} 0 1 = cc in omega arith
-
-pub whole_one : (es : List (Edge Model)) (port : Wire) (m : Model) → Whole Joins Refused port es m → length es ≡ 1
-whole_one es port m w = ap length w.alone
+pub step_fits_at : (bs : List Branch) (c : Choice) (fs : List (Edge Model)) → (chosen_pair c).low < (chosen_pair c).high → (chosen_pair c).high < length bs → Fit (edges bs) → Replaced c (edges bs) fs → Fit fs
+step_fits_at bs c fs lo hi fit r = let n = length-map bs edge in step_fits c (edges bs) fs lo (omega (arith, hi, n)) fit r

@@ -3,20 +3,20 @@ use Rattle.std.specs.Prelude.{◌≡◌, ℕ, List, Option}
 use Rattle.reader.specs.Answers as reader
 use Rattle.refusals.specs.Refusals.{told}
 use Rattle.reader.specs.declared.Listing.{Listing}
-use Rattle.wave.specs.Rows.{Row}
+use Rattle.told.specs.declared.Told.{Told}
 use Rattle.weights.specs.Limits.{Scaled}
 use Rattle.tree.specs.Models.{Model, reads}
 use Rattle.net.specs.Reductions.{Edge, EndsDown, EndsLeft, EndsOver, OneAnswer}
 use Rattle.net.specs.declared.wires.Wire.{Wire}
-use Rattle.assembly.specs.Branches.{Joins, Refused}
+use Rattle.assembly.specs.Branches.{ends_at, Joins, Refused}
 use Rattle.assembly.specs.Beginnings.{Begins, Unweighable, Earless, EarIs}
 use Rattle.assembly.specs.declared.faults.AssemblyFault.{AssemblyFault}
 use Rattle.assembly.specs.declared.faults.AssemblyFault.TheVariants.{Reading, OutOfRange, BadWeight, Irreducible, TooLarge, NoEar}
 use Rattle.assembly.specs.declared.assembling.Assembled.{Assembled}
 
 -- every refusal as it is told
-abbrev pub row : AssemblyFault → Row
-row (Reading f) = record { layer = (told f).layer; number = (told f).number; place = (told f).place }
+abbrev pub row : AssemblyFault → Told
+row (Reading f) = told f
 row OutOfRange = record { layer = 2; number = 11; place = 0 }
 row (BadWeight p) = record { layer = 2; number = 12; place = p }
 row Irreducible = record { layer = 2; number = 13; place = 0 }
@@ -24,7 +24,7 @@ row (TooLarge p) = record { layer = 2; number = 14; place = p }
 row NoEar = record { layer = 2; number = 15; place = 0 }
 
 abbrev pub port_of : Listing → Wire
-port_of d = record { from = d.port.ends.from.index; to = d.port.ends.to.index }
+port_of d = ends_at d.port.ends
 
 -- the text is read, rate and unit are in range, and the elements are branches
 pub record Begun (t : List ℕ) (rate unit : ℕ) (name : List ℕ) (d : Listing) (bs : List (Edge Model)) : Type 0 where

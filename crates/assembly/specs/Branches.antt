@@ -7,9 +7,15 @@ use Rattle.adaptor.specs.declared.joints.JoinRefusal.TheVariants.{Number}
 use Rattle.tree.specs.Models.{Model, reads}
 use Rattle.tree.specs.Growth.{Grown}
 use Rattle.net.specs.Reductions.{Edge}
+use Rattle.net.specs.declared.wires.Wire.{Wire}
 use Rattle.net.specs.declared.wires.Choice.{Choice}
 use Rattle.net.specs.declared.wires.Choice.TheVariants.{Twins, Chain}
+use Rattle.reader.specs.declared.Ends.{Ends}
 use Rattle.assembly.specs.declared.branches.Branch.{Branch}
+
+-- the two ends of an element or of the port, by the numbers of their nodes
+abbrev pub ends_at : Ends → Wire
+ends_at e = record { from = e.from.index; to = e.to.index }
 
 abbrev pub edge : Branch → Edge Model
 edge b = record { what = b.tree.tree; wire = b.wire; place = b.place }

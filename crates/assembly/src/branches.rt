@@ -1,6 +1,8 @@
 ghost use Rattle.std.specs.Prelude.{◌≡◌};
+ghost use Rattle.assembly.specs.Branches.{ends_at};
 
 use net::{Wire, Wired};
+use reader::Ends;
 use tree::ListingTree;
 
 // A tree between two nodes, and the place of its first element's name.
@@ -16,5 +18,15 @@ impl Wired for Branch {
 
     fn wire(&self) -> Wire {
         self.wire
+    }
+}
+
+// The two ends of an element or of the port, by the numbers of their nodes.
+pub(crate) fn wire_of(ends: Ends) -> Wire
+    ensures { result ≡ ends_at ends }
+{
+    Wire {
+        from: ends.from.index,
+        to: ends.to.index,
     }
 }

@@ -1,10 +1,15 @@
 ghost use Rattle.std.specs.Prelude.{◌≡◌};
+ghost use Rattle.assembly.specs.Assemblies.{row};
 ghost use Rattle.assembly.specs.declared.faults.AssemblyFault.TheVariants.{Reading};
 
 use refusals::Fault;
+use told::{Tells, Told};
+
+// Assembling is the second layer that may refuse.
+const LAYER: u32 = 2;
 
 /// Why no tree is made of a text.
-#[derive(Drop)]
+#[derive(Clone, Copy, Debug, PartialEq, Eq)]
 pub enum AssemblyFault {
     /// The text is refused in reading.
     Reading(Fault),
@@ -25,5 +30,25 @@ impl From<Fault> for AssemblyFault {
 
     fn from(fault: Fault) -> AssemblyFault {
         AssemblyFault::Reading(fault)
+    }
+}
+
+impl Tells for AssemblyFault {
+    ghost says = { row };
+
+    fn told(&self) -> Told {
+        let (number, place) = match *self {
+            AssemblyFault::Reading(fault) => return fault.told(),
+            AssemblyFault::OutOfRange => (11, 0),
+            AssemblyFault::BadWeight(place) => (12, place),
+            AssemblyFault::Irreducible => (13, 0),
+            AssemblyFault::TooLarge(place) => (14, place),
+            AssemblyFault::NoEar => (15, 0),
+        };
+        Told {
+            layer: LAYER,
+            number,
+            place: place as u64,
+        }
     }
 }

@@ -4,9 +4,8 @@
 mod assembling;
 mod branches;
 mod faults;
+mod forests;
 mod leaves;
-mod reducing;
-mod rows;
 mod spaces;
 
 pub use assembling::{Assembled, assemble};

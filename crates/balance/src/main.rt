@@ -3,8 +3,8 @@
 
 use assembly::{Assembled, Workspace};
 use closing::Source;
-use lines::{Line, page_line};
-use panel::{fault_line, listen, prepare, source};
+use lines::{Line, page_line, refusal_line};
+use panel::{listen, prepare, source};
 use std::fs;
 use std::io::{Read, Write};
 use stream::Stream;
@@ -13,16 +13,13 @@ use tree::ListingTree;
 /// How many bytes are read at once.
 const PIECE: usize = 4096;
 
+// Kept: what a file holds stands in no contract, so the reading of `line.cir` is no library's, and each program has these lines.
 fn main(rt: HostRuntime) -> anyhow::Result<()> {
-    run(&rt)
-}
-
-fn run(rt: &HostRuntime) -> anyhow::Result<()> {
-    let text = fs::read(rt, "line.cir").unwrap_or(Vec::new(rt.alloc()));
+    let text = fs::read(&rt, "line.cir").unwrap_or(Vec::new(rt.alloc()));
     let mut tree = ListingTree::built_in();
     match prepare(&text, Workspace::new(rt.alloc())?, &mut tree) {
-        Ok(made) => weigh(rt, tree, made),
-        Err(fault) => write_line(rt, fault_line(&fault)),
+        Ok(made) => weigh(&rt, tree, made),
+        Err(fault) => write_line(&rt, refusal_line(&fault)),
     }
 }
 
@@ -32,6 +29,8 @@ fn write_line(rt: &HostRuntime, line: Line) -> anyhow::Result<()> {
 }
 
 // Feeds one piece, and writes a line for each page that it fills.
+// Kept: it writes as the pages come, with no heap while feeding, and what a failed write leaves stands in no contract; so it is no library's, and
+// `conformance` has its like over a `Vec`.
 fn weigh_piece(
     rt: &HostRuntime,
     stream: &mut Stream<ListingTree, Source>,
@@ -50,15 +49,16 @@ fn weigh_piece(
 fn weigh(rt: &HostRuntime, tree: ListingTree, made: Assembled) -> anyhow::Result<()> {
     let mut stream = listen(tree, source());
     let mut piece = [0; PIECE];
+    // Kept: a loop that waits on input counts, so that it ends.
     for _ in 0..u64::MAX {
         let n = rt.stdin().read(&mut piece)?;
         if n == 0 {
             break;
         }
-        weigh_piece(rt, &mut stream, &piece[0..n], made)?;
+        weigh_piece(rt, &mut stream, &piece[..n], made)?;
     }
-    match stream.finish() {
-        Some(page) => write_line(rt, page_line(made.num, made.den, page)),
-        None => Ok(()),
+    if let Some(page) = stream.finish() {
+        write_line(rt, page_line(made.num, made.den, page))?;
     }
+    Ok(())
 }

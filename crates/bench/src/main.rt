@@ -8,12 +8,12 @@ use std::time::Instant;
 use std::{env, io};
 use tree::{Body, Element, ListingTree, Room};
 
-const SHORT_RUN: u32 = 10000;
+const SHORT_RUN: u32 = 10_000;
 
-const LONG_RUN: u32 = 10000000;
+const LONG_RUN: u32 = 10_000_000;
 
 // The sums of what a run answers.
-#[derive(Clone, Copy)]
+#[derive(Clone, Copy, Default)]
 struct Sums {
     absorbed: u64,
     shortened: u64,
@@ -21,42 +21,34 @@ struct Sums {
     rising: i64,
 }
 
-fn storage(index: u32, storage: Option<Storage>) -> Option<ListingTree> {
+fn storage(index: u32, kind: StorageKind, weight: u32) -> Option<ListingTree> {
+    let storage = Storage::new(kind, weight).ok()?;
     Some(ListingTree::leaf(Element {
         index,
-        body: Body::Store(storage?),
+        body: Body::Store(storage),
     }))
-}
-
-fn join(
-    way: Way,
-    left: Option<ListingTree>,
-    right: Option<ListingTree>,
-    room: &mut Room,
-) -> Option<ListingTree> {
-    ListingTree::join(way, left?, right?, room).ok()
 }
 
 // A coil of 31 in series with a capacitor of 320 and a resistor of 166, which hears, in parallel.
 fn door(room: &mut Room) -> Option<ListingTree> {
-    let coil = storage(0, Storage::new(StorageKind::Coil, 31).ok());
-    let capacitor = storage(1, Storage::new(StorageKind::Capacitor, 320).ok());
-    let resistor = Some(ListingTree::leaf(Element {
+    let coil = storage(0, StorageKind::Coil, 31)?;
+    let capacitor = storage(1, StorageKind::Capacitor, 320)?;
+    let resistor = ListingTree::leaf(Element {
         index: 2,
         body: Body::Resist(Resistor::new(166, true).ok()?),
-    }));
-    let behind = join(Way::Parallel, capacitor, resistor, room);
-    join(Way::Series, coil, behind, room)
+    });
+    let behind = ListingTree::join(Way::Parallel, capacitor, resistor, room).ok()?;
+    ListingTree::join(Way::Series, coil, behind, room).ok()
 }
 
 // 32 capacitors of 320 in parallel, joined one after the other.
 fn capacitors(room: &mut Room) -> Option<ListingTree> {
-    let mut all = storage(0, Storage::new(StorageKind::Capacitor, 320).ok());
-    for index in 1..32u32 {
-        let next = storage(index, Storage::new(StorageKind::Capacitor, 320).ok());
-        all = join(Way::Parallel, all, next, room);
+    let mut all = storage(0, StorageKind::Capacitor, 320)?;
+    for index in 1..32 {
+        let next = storage(index, StorageKind::Capacitor, 320)?;
+        all = ListingTree::join(Way::Parallel, all, next, room).ok()?;
     }
-    all
+    Some(all)
 }
 
 // The next number of Marsaglia's xorshift.
@@ -67,13 +59,8 @@ fn stir(x: u32) -> u32 {
 }
 
 fn run(tree: &mut ListingTree, turns: u32) -> Sums {
-    let mut sums = Sums {
-        absorbed: 0,
-        shortened: 0,
-        heard: 0,
-        rising: 0,
-    };
-    let mut x: u32 = 1;
+    let mut sums = Sums::default();
+    let mut x = 1;
     for _ in 0..turns {
         x = stir(x);
         let taken = tree.take((x & 131071) as i32 - 65536);
@@ -98,10 +85,7 @@ fn timed(rt: &HostRuntime, name: &str, tree: &mut ListingTree, turns: u32) -> io
 }
 
 fn main(rt: HostRuntime) -> io::Result<()> {
-    let mut long = false;
-    for word in env::args(&rt)? {
-        long = long | (word.as_str() == "time");
-    }
+    let long = env::args(&rt)?.any(|word| word.as_str() == "time");
     let turns = if long { LONG_RUN } else { SHORT_RUN };
     let mut room = Room::new(rt.alloc(), 66)?;
     let Some(mut line) = door(&mut room) else {
@@ -114,8 +98,8 @@ fn main(rt: HostRuntime) -> io::Result<()> {
     let small = timed(&rt, "door", &mut line, turns)?;
     let large = timed(&rt, "32 capacitors", &mut bank, turns)?;
     if long {
-        println!(rt; "door: {} ns a take", small / 10000000)?;
-        println!(rt; "32 capacitors: {} ns a take", large / 10000000)?;
+        println!(rt; "door: {} ns a take", small / u128::from(LONG_RUN))?;
+        println!(rt; "32 capacitors: {} ns a take", large / u128::from(LONG_RUN))?;
         if small > 0 {
             println!(rt; "32 capacitors take {} times as long", large / small)?;
         }

@@ -2,10 +2,12 @@
 // `filter` writes them, and lines as `balance` does. Standard input names the runs; NAME.cir, NAME.raw, NAME.filter and NAME.balance belong to each.
 #![tactic(auto)]
 
+ghost use Rattle.std.specs.Prelude.{◌<◌};
+
 use assembly::{Assembled, Workspace};
 use closing::Source;
-use lines::{Line, page_line};
-use panel::{fault_line, listen, prepare, source};
+use lines::{page_line, refusal_line};
+use panel::{listen, prepare, source};
 use std::fs;
 use stream::Stream;
 use tree::ListingTree;
@@ -13,43 +15,35 @@ use tree::ListingTree;
 /// The lengths of pieces that are tried.
 const CUTS: [usize; 3] = [1, 3, 4096];
 
-fn add(out: &mut Vec<u8>, bytes: &[u8]) -> anyhow::Result<()> {
-    out.extend_from_slice(bytes)?;
-    Ok(())
-}
-
-fn add_line(out: &mut Vec<u8>, line: Line) -> anyhow::Result<()> {
-    add(out, line.text())
-}
-
-// Filters one piece by way of `heard`, and adds what was heard.
-fn filter_piece(
-    stream: &mut Stream<ListingTree, Source>,
-    piece: &[u8],
-    heard: &mut [u8],
+// A stream through the tree of a listing, and what is known of the tree; or none, and the line that refuses the listing is added.
+fn stream_of(
+    rt: &HostRuntime,
+    text: &[u8],
     out: &mut Vec<u8>,
-) -> anyhow::Result<()> {
-    if let Some(n) = stream.filter(piece, heard) {
-        add(out, &heard[0..n])?;
+) -> anyhow::Result<Option<(Stream<ListingTree, Source>, Assembled)>> {
+    let mut tree = ListingTree::built_in();
+    match prepare(text, Workspace::new(rt.alloc())?, &mut tree) {
+        Ok(made) => Ok(Some((listen(tree, source()), made))),
+        Err(fault) => {
+            out.extend_from_slice(refusal_line(&fault).text())?;
+            Ok(None)
+        }
     }
-    Ok(())
 }
 
 // What `filter` writes.
-fn filtered(rt: &HostRuntime, text: &[u8], samples: &[u8], cut: usize) -> anyhow::Result<Vec<u8>> {
+fn filtered(rt: &HostRuntime, text: &[u8], samples: &[u8], cut: usize) -> anyhow::Result<Vec<u8>>
+    requires { 0 < cut }
+{
     let mut out = Vec::new(rt.alloc());
-    if cut == 0 {
+    let Some((mut stream, _)) = stream_of(rt, text, &mut out)? else {
         return Ok(out);
-    }
-    let mut tree = ListingTree::built_in();
-    if let Err(fault) = prepare(text, Workspace::new(rt.alloc())?, &mut tree) {
-        add_line(&mut out, fault_line(&fault))?;
-        return Ok(out);
-    }
-    let mut stream = listen(tree, source());
+    };
     let mut heard = [0; 4098];
     for piece in samples.chunks(cut) {
-        filter_piece(&mut stream, piece, &mut heard, &mut out)?;
+        if let Some(n) = stream.filter(piece, &mut heard) {
+            out.extend_from_slice(&heard[..n])?;
+        }
     }
     Ok(out)
 }
@@ -63,42 +57,31 @@ fn weigh_piece(
 ) -> anyhow::Result<()> {
     let mut left = piece;
     while let Some((page, rest)) = stream.measure(left) {
-        add_line(out, page_line(made.num, made.den, page))?;
+        out.extend_from_slice(page_line(made.num, made.den, page).text())?;
         left = rest;
     }
     Ok(())
 }
 
 // What `balance` writes.
-fn balanced(rt: &HostRuntime, text: &[u8], samples: &[u8], cut: usize) -> anyhow::Result<Vec<u8>> {
+fn balanced(rt: &HostRuntime, text: &[u8], samples: &[u8], cut: usize) -> anyhow::Result<Vec<u8>>
+    requires { 0 < cut }
+{
     let mut out = Vec::new(rt.alloc());
-    if cut == 0 {
+    let Some((mut stream, made)) = stream_of(rt, text, &mut out)? else {
         return Ok(out);
-    }
-    let mut tree = ListingTree::built_in();
-    let made = match prepare(text, Workspace::new(rt.alloc())?, &mut tree) {
-        Ok(made) => made,
-        Err(fault) => {
-            add_line(&mut out, fault_line(&fault))?;
-            return Ok(out);
-        }
     };
-    let mut stream = listen(tree, source());
     for piece in samples.chunks(cut) {
         weigh_piece(&mut stream, piece, made, &mut out)?;
     }
     if let Some(page) = stream.finish() {
-        add_line(&mut out, page_line(made.num, made.den, page))?;
+        out.extend_from_slice(page_line(made.num, made.den, page).text())?;
     }
     Ok(out)
 }
 
-fn verdict(ours: &Vec<u8>, wanted: &Vec<u8>) -> &'static str {
-    if ours.as_slice() == wanted.as_slice() {
-        "agrees"
-    } else {
-        "DIFFERS"
-    }
+fn verdict(ours: &[u8], wanted: &[u8]) -> &'static str {
+    if ours == wanted { "agrees" } else { "DIFFERS" }
 }
 
 fn compare(rt: &HostRuntime, name: &str) -> anyhow::Result<()> {
@@ -117,8 +100,7 @@ fn compare(rt: &HostRuntime, name: &str) -> anyhow::Result<()> {
 
 fn main(rt: HostRuntime) -> anyhow::Result<()> {
     for line in rt.lines(rt.alloc()) {
-        let name = line?;
-        compare(&rt, name.as_str())?;
+        compare(&rt, line?.as_str())?;
     }
     Ok(())
 }

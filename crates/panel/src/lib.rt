@@ -6,17 +6,13 @@ ghost use Rattle.closing.specs.Meaning.{Bounded};
 ghost use Rattle.rig.specs.Pages.{Fresh};
 ghost use Rattle.rig.specs.Energy.{Promises};
 ghost use Rattle.stream.specs.Pieces.{WhateverTheCuts};
-ghost use Rattle.assembly.specs.Assemblies.{Accepts, Refuses, row};
-ghost use Rattle.lines.specs.Texts.{line_of, Holds};
-ghost use Rattle.lines.specs.Words.{refusal_words};
+ghost use Rattle.assembly.specs.Assemblies.{Accepts, Refuses};
 ghost use Rattle.panel.specs.Panels.{source_weight, panel_rate, panel_unit};
 ghost use Rattle.panel.specs.Tails.{tree_port, TailDies};
 
 use assembly::{Assembled, AssemblyFault, Workspace, assemble};
 use closing::{Closing, Source};
-use lines::{Line, refusal_line};
 use stream::Stream;
-use told::Told;
 use tree::ListingTree;
 
 /// A stream through the tree of a listing. Over a bounded closing its tail dies: in silence the rounds in which anything is heard number at most the
@@ -30,17 +26,6 @@ pub fn listen<C: Closing>(tree: ListingTree, closing: C) -> Stream<ListingTree, 
     Stream::new(tree, closing, 0)
 }
 
-/// The line that says a refusal of a listing: its layer, number and place.
-pub fn fault_line(fault: &AssemblyFault) -> Line
-    ensures { Holds (line_of (refusal_words (record { layer = (row fault.now).layer; number = (row fault.now).number; place = (row fault.now).place }))) result }
-{
-    refusal_line(&Told {
-        layer: fault.layer() as u32,
-        number: fault.number() as u32,
-        place: fault.place() as u64,
-    })
-}
-
 /// The weight of the source before a panel's line.
 pub const SOURCE_WEIGHT: u32 = 166;
 
@@ -48,10 +33,7 @@ pub const SOURCE_WEIGHT: u32 = 166;
 pub fn source() -> Source
     ensures { result.weight.value ≡ source_weight }
 {
-    match Source::new(SOURCE_WEIGHT) {
-        Ok(source) => source,
-        Err(_) => unreachable(),
-    }
+    Source::new(SOURCE_WEIGHT).unwrap()
 }
 
 /// The rate of a panel's samples, in hertz.

@@ -4,29 +4,31 @@
 
 mod parts;
 mod shown;
-mod told;
+mod words;
 
+use anyhow::anyhow;
 use assembly::Workspace;
 use panel::{prepare, source};
+use reader::read;
 use report::report_on;
 use std::fs;
 use std::io::Read;
 use tree::ListingTree;
 
+// Kept: what a file holds stands in no contract, so the reading of `line.cir` is no library's, and each program has these lines.
 fn main(rt: HostRuntime) -> anyhow::Result<()> {
-    run(&rt)
-}
-
-fn run(rt: &HostRuntime) -> anyhow::Result<()> {
-    let text = fs::read(rt, "line.cir").unwrap_or(Vec::new(rt.alloc()));
+    let text = fs::read(&rt, "line.cir").unwrap_or(Vec::new(rt.alloc()));
     let mut tree = ListingTree::built_in();
     if let Err(fault) = prepare(&text, Workspace::new(rt.alloc())?, &mut tree) {
-        return told::refused(rt, &text, &fault);
+        return words::print_refusal(&rt, &text, &fault);
     }
-    parts::print_elements(rt, &text)?;
-    parts::print_tree(rt, &text, &tree)?;
+    let Ok(listing) = read(&text) else {
+        return Err(anyhow!("the listing is refused"));
+    };
+    parts::print_elements(&rt, &text, &listing)?;
+    parts::print_tree(&rt, &text, &listing, &tree)?;
     let mut samples = Vec::new(rt.alloc());
     rt.stdin().read_to_end(&mut samples)?;
     let report = report_on(tree, source(), &samples)?;
-    shown::print_report(rt, &report)
+    shown::print_report(&rt, &report)
 }

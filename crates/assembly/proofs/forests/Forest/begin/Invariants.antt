@@ -7,7 +7,7 @@ use Rattle.assembly.specs.Limits.{most_branches}
 use Rattle.assembly.specs.Branches.{edges}
 use Rattle.assembly.specs.Beginnings.{BeginsAs, Outside, weight_of_element}
 use Rattle.assembly.specs.Inner.{sizes, ears, passed}
-use Rattle.assembly.proofs.leaves.begin.Given as goal
+use Rattle.assembly.proofs.forests.Forest.begin.Given as goal
 
 abbrev pub invariant-loop-index : goal.invariant-loop-index
 invariant-loop-index l =
