@@ -38,6 +38,7 @@ fn idle(f: Wave) -> Taken
 
 impl<P: Port, Q: Port> Adaptor<P, Q> {
     /// The two in series or in parallel.
+    // Kept: a refusal hands both ports back, so it is not passed on by `?`.
     pub fn new(way: Way, left: P, right: Q) -> Result<Adaptor<P, Q>, Apart<P, Q>>
         ensures { Joins way P.Port Q.Port left right result }
     {

@@ -135,6 +135,7 @@ impl Round {
     }
 }
 
+// Kept: what is done in each way is one equation a function, so a match shows both; a trait for two ways would tear them apart.
 impl Joint {
     pub fn new(way: Way, left: Part, right: Part) -> Result<Joint, JoinRefusal>
         ensures { MatchResult result (λ j. Made way left right j) (λ w. Refuses way left right w) }

@@ -37,6 +37,7 @@ impl Tells for WeightRefusal {
 }
 
 impl Weight {
+    // Kept: a checked constructor, as those of the types above are; `TryFrom` would only rename it.
     pub fn new(value: u32) -> Result<Weight, WeightRefusal>
         ensures { MatchResult result (λ w. w.value ≡ value) (λ w. NoWeight value w) }
     {

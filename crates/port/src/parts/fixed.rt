@@ -7,6 +7,7 @@ use wave::Ratio;
 pub const LARGEST_SIZE: u32 = 32;
 
 /// What never changes of a port.
+// Kept: ears are a count, since those of two ports are added up.
 #[derive(Clone, Copy, Debug, PartialEq, Eq)]
 pub struct Part {
     pub ratio: Ratio,
