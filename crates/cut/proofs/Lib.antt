@@ -1,3 +1,4 @@
 mod Rest
 pub mod Kept
+pub mod Runs
 pub mod Same

@@ -1,7 +1,8 @@
 // Cuts a text into lines and a line into fields, each a span of the text.
 #![tactic(auto)]
 
-ghost use Rattle.std.specs.Prelude.{◌≡◌, ◌+◌, ◌-◌, ◌<◌, ◌≤◌, [], length, IfOk, MatchOption, string_bytes};
+ghost use Rattle.std.specs.Prelude.{◌≡◌, ◌+◌, ◌-◌, ◌<◌, ◌≤◌, ◌==◌, [], length, IfOk, MatchOption, string_bytes};
+ghost use Rattle.std.specs.List.{prefix_len, position_or_len};
 ghost use Rattle.std.specs.Str.{IsUtf8};
 ghost use Rattle.std.specs.Str.Lossy.{utf8_lossy};
 ghost use Rattle.cut.specs.Cuts.{blank, bytes, stop as stop_of, LineTo, AllBlank, FieldAt, FirstFields};
@@ -47,16 +48,39 @@ fn is_blank(b: u8) -> bool
     b == b' ' || b == b'\t'
 }
 
+// How many bytes stand before the first line feed.
+fn line_len(bytes: &[u8]) -> usize
+    ensures run { result ≡ position_or_len (λ b. b == 10) bytes.now }
+    ensures bound { result ≤ length bytes.now }
+{
+    bytes.iter().take_while(|b| **b != b'\n').count()
+}
+
+// How many bytes at the front are blank.
+fn gap_len(bytes: &[u8]) -> usize
+    ensures run { result ≡ prefix_len blank bytes.now }
+    ensures bound { result ≤ length bytes.now }
+{
+    bytes.iter().take_while(|b| is_blank(**b)).count()
+}
+
+// How many bytes stand before the first blank.
+fn word_len(bytes: &[u8]) -> usize
+    ensures run { result ≡ position_or_len blank bytes.now }
+    ensures bound { result ≤ length bytes.now }
+{
+    bytes.iter().take_while(|b| !is_blank(**b)).count()
+}
+
 // Where the line that starts at this place ends: at its line feed, or at the text's end.
 pub fn line_end(text: &[u8], start: usize) -> usize
     ensures within { start ≤ length text.now → LineTo text.now start result }
     ensures beyond { length text.now < start → result ≡ start }
 {
-    let mut end = start;
-    while end < text.len() && text[end] != b'\n' {
-        end += 1;
+    match text.get(start..) {
+        Some(rest) => start + line_len(rest),
+        None => start,
     }
-    end
 }
 
 // The first field between two places of the text.
@@ -64,21 +88,12 @@ fn next_field(text: &[u8], from: usize, end: usize) -> Option<Span>
     requires { (from ≤ end) × (end ≤ length text.now) }
     ensures { MatchOption result (AllBlank text.now from end) (λ f. FieldAt text.now from end f) }
 {
-    let mut start = from;
-    while start < end && is_blank(text[start]) {
-        start += 1;
-    }
-    if start == end {
+    let place = from + gap_len(&text[from..end]);
+    let len = word_len(&text[place..end]);
+    if len == 0 {
         return None;
     }
-    let mut stop = start + 1;
-    while stop < end && !is_blank(text[stop]) {
-        stop += 1;
-    }
-    Some(Span {
-        place: start,
-        len: stop - start,
-    })
+    Some(Span { place, len })
 }
 
 // The first fields of a line, and of a longer line the first five; none of a line that is not in the text.
