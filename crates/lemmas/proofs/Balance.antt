@@ -6,13 +6,13 @@
 -- that loses; f is what falls on the whole, r₁ r₂ what the parts raise. S is stored before, T stored after and absorbed, g₁ g₂ what the parts lose.
 use mathlib.Core.Path.{◌≡◌, refl, sym, ap, ◌∙◌}
 use mathlib.Core.List.{[], ◌∷◌}
-use Prim.Native.Nat.{ℕ, zero, suc, ◌*◌, ◌+◌, ◌-◌, ◌≤◌, ◌<◌}
+use Prim.Native.Nat.{ℕ, ◌*◌, ◌+◌, ◌-◌, ◌≤◌, ◌<◌}
 use native.Mathlib.Nat.{le_of_mul-le-mul_left, eq_of_mul-eq-mul_left, mul-zero, mul-pos, add-mul, mul_assoc, mul_comm, mul_left_comm}
 use native.Mathlib.Omega.{arith}
 use lib.IntN.{ℤ, pos, negsuc, nat_abs, ◌+ℤ◌, ◌-ℤ◌, ◌*ℤ◌}
 use borrow.Author.Differences.{ints}
 use Rattle.lemmas.proofs.Integers.{pos_inj, pos_sq}
-use Rattle.lemmas.proofs.Ring.{ring, ring_by, v, k, ◌⊕◌, ◌⊗◌, by, done}
+use Rattle.lemmas.proofs.Ring.{ring_by, v, k, ◌⊕◌, ◌⊗◌, by, done}
 
 abbrev sq : ℤ → ℕ
 sq z = nat_abs z * nat_abs z

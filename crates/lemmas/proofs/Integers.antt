@@ -1,6 +1,6 @@
 -- The laws of a commutative ring for the integers, as far as lib.IntN lacks them; sizes and squares.
 use mathlib.Core.Path.{◌≡◌, refl, sym, ap, ◌∙◌}
-use Prim.Native.Nat.{ℕ, zero, suc, ◌*◌, ◌+◌, ◌≤◌, ◌^◌}
+use Prim.Native.Nat.{ℕ, zero, suc, ◌*◌, ◌≤◌}
 use native.Mathlib.Nat.{mul-add, add-mul, mul_assoc, mul-le-mul}
 use native.Mathlib.Omega.{arith}
 use borrow.Author.Differences.{up, down, same_in, product_is, sum_is_lem, ints}
