@@ -1,4 +1,2 @@
-mod Rest
-pub mod Kept
 pub mod Runs
 pub mod Same

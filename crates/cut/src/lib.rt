@@ -48,6 +48,8 @@ fn is_blank(b: u8) -> bool
     b == b' ' || b == b'\t'
 }
 
+// Kept: a function for each test; with the test as a parameter, the proof that the chain may call it did not close.
+
 // How many bytes stand before the first line feed.
 fn line_len(bytes: &[u8]) -> usize
     ensures run { result ≡ position_or_len (λ b. b == 10) bytes.now }
@@ -107,6 +109,7 @@ pub fn fields_of(text: &[u8], line: Span) -> Fixed<Span, 5>
     }
     let end = line.place + line.len;
     let mut from = line.place;
+    // Kept: an iterator over the fields would carry the same place from turn to turn, and state this loop's invariant as its ghost members.
     while let Some(field) = next_field(text, from, end) {
         let _ = found.push(field);
         from = field.place + field.len;

@@ -1,7 +1,7 @@
-use Rattle.std.proofs.Common.{[], ◌∷◌, ◌++◌, sym, ◌∙◌, subst, append-nil, arith}
+use Rattle.std.proofs.Common.{arith, [], ◌∷◌, ◌++◌, sym, subst, append-nil}
 use lib.Seq.{append_snoc}
 use Rattle.cut.specs.Cuts.{FieldsIn}
-use Rattle.cut.proofs.Kept.{kept_more}
+use Rattle.std.proofs.lemmas.Grind.{common_steps}
 use Rattle.cut.proofs.fields_of.Goals as goal
 
 pub loop-field-preserved : goal.loop-field-preserved
@@ -11,14 +11,10 @@ loop-field-preserved c =
       c.in-Some.ensures.high,
       (
         ps ++ f ∷ [],
-        c.push.ensures.items ∙ kept_more 5 _ ps f c.loop-field.invariant.1.1,
+        let e = c.push.ensures.items in let k = c.loop-field.invariant.1.1 in grind (arith, common_steps, e, k),
         λ rest more. subst (FieldsIn c.args.text.now c.args.line.place _) (sym (append_snoc ps f rest)) (c.loop-field.invariant.1.2 (f ∷ rest) (c.in-Some.ensures, more)),
       ),
     )
 
-pub returns : goal.returns
-returns c =
-    record {
-      within = λ _. (c.loop-field.invariant.1.0, (rw append-nil at (c.loop-field.invariant.1.2 [] c.in_default.ensures)), c.loop-field.invariant.1.1);
-      beyond = λ l. absurd (omega arith);
-    }
+pub returns-clause-within : goal.returns-clause-within
+returns-clause-within c = λ _. (c.loop-field.invariant.1.0, (rw append-nil at (c.loop-field.invariant.1.2 [] c.in_default.ensures)), c.loop-field.invariant.1.1)
