@@ -1,10 +1,11 @@
 -- A word has one value at most.
-use Rattle.std.proofs.Common.{◌≡◌, ℕ, zero, suc, ◌+◌, ◌*◌, ◌^◌, ◌<◌, ◌≤◌, true, ◌⊎◌, List, [], ◌∷◌, ◌++◌, length, get_or, take, drop, Some, None, Option, sym, refl, ap, ◌∙◌, subst, ⊎_elim, pow-suc, add-one, arith, take-append-drop, length-take-le, get_or-take}
+use Rattle.std.proofs.Common.{◌≡◌, ℕ, zero, suc, ◌+◌, ◌-◌, ◌*◌, ◌^◌, ◌<◌, ◌≤◌, true, ◌⊎◌, List, [], ◌∷◌, ◌++◌, length, get_or, take, drop, Some, None, Option, sym, refl, ap, ◌∙◌, subst, ⊎_elim, pow-suc, add-one, arith, take-append-drop, length-take-le, get_or-take}
 use native.Mathlib.Nat.{pow-le-pow_right}
 use lib.Seq.{take-append_seam, drop-append_seam}
 use Rattle.std.specs.Char.{is_ascii_digit}
 use Rattle.std.specs.List.{prefix_len}
 use Rattle.std.proofs.lemmas.Bool.{cond-true, cond-false, cases_Bool}
+use Rattle.std.proofs.lemmas.List.Sums.{fold_more}
 use Rattle.std.proofs.lemmas.Bool.Decides.{nat_tests}
 use Rattle.values.specs.declared.Kind.{Kind}
 use Rattle.values.specs.declared.Wrong.{Wrong}
@@ -21,6 +22,15 @@ ten_more n i d h l = rw (add-one, pow-suc) (omega arith)
 
 pub six_digits : (n i : ℕ) → i ≤ 6 → n < 10 ^ i → n < 1000000
 six_digits n i l h = let z : 0 < 10 = omega arith in let m : 10 ^ i ≤ 10 ^ 6 = pow-le-pow_right z l in omega arith
+
+-- the number of the first i digits is below the i-th power of ten
+pub decimal_below : (ds : List ℕ) (i : ℕ) → i ≤ length ds → ((k : ℕ) → k < length ds → is_ascii_digit (get_or ds k 0) ≡ true) → decimal (take i ds) < 10 ^ i
+decimal_below ds zero l h = omega arith
+decimal_below ds (suc i) l h =
+    let r = digit_range (get_or ds i 0) (h i (omega arith)) in
+    let e : decimal (take (i + 1) ds) ≡ decimal (take i ds) * 10 + (get_or ds i 0 - 48) = fold_more (λ n b. n * 10 + (b - 48)) 0 ds i 0 (omega arith) in
+    let m = ten_more (decimal (take i ds)) i (get_or ds i 0 - 48) (decimal_below ds i (omega arith) h) (omega (arith, r.0, r.1)) in
+    subst (λ n. decimal (take n ds) < 10 ^ n) (add-one i) (subst (λ n. n < 10 ^ (i + 1)) (sym e) m)
 
 pub leading_append : (ds ss : List ℕ) → ((k : ℕ) → k < length ds → is_ascii_digit (get_or ds k 0) ≡ true) → prefix_len is_ascii_digit ss ≡ 0 → prefix_len is_ascii_digit (ds ++ ss) ≡ length ds
 leading_append [] ss h e = e

@@ -127,12 +127,9 @@ fn decimal_of(digits: &[u8]) -> u64
     ensures value { result ≡ decimal digits.now }
     ensures bound { result < 1000000 }
 {
-    // Kept: a loop, whose invariant bounds the sum so far; the closure of a fold would know no bound of it.
-    let mut sum = 0;
-    for b in digits {
-        sum = sum * 10 + u64::from(*b - b'0');
-    }
-    sum
+    digits
+        .iter()
+        .fold(0, |sum, b| sum * 10 + u64::from(*b - b'0'))
 }
 
 impl Factor {
