@@ -22,6 +22,7 @@ pub struct Assembled {
 
 /// Writes the tree of the listing into the place, at rest, and answers its numbers. The rate is in hertz, the unit in nanosiemens; `ear` is the
 /// name of the resistor with the ear, empty for none. A refusal leaves the place as it was.
+// Kept: rate and unit come as plain numbers, since a caller may hand any, and those of no `Scale` are refused here.
 pub fn assemble(
     text: &[u8],
     rate: u32,

@@ -27,6 +27,7 @@ pub(crate) struct Forest {
     ghost fit: { Fit (edges branches.items) },
 }
 
+// Kept: a `Choice` is net's and a `Way` is adaptor's, so this can be no `From` and no method.
 fn way_of(choice: Choice) -> Way
     ensures { result ≡ way_for choice }
 {
@@ -37,6 +38,7 @@ fn way_of(choice: Choice) -> Way
 }
 
 // The ends of what two branches become.
+// Kept: a `Choice` is net's, so this can be no method.
 fn joined_ends(choice: Choice, low: Wire, high: Wire) -> Wire
     ensures { result ≡ ends_after_join choice low high }
 {
@@ -128,6 +130,7 @@ impl Forest {
 }
 
 // The tree that the elements come down to.
+// Kept: elements, ear and scale go together in this call and the one of `begin` only; a struct made for one call is no plainer.
 pub(crate) fn tree_of(
     elements: &[Element],
     port: Wire,

@@ -1,8 +1,8 @@
 -- A round in which anything is heard absorbs, so it is a busy one.
-use Rattle.std.proofs.Common.{◌≡◌, ℕ, zero, suc, ◌+◌, ◌<◌, ◌≤◌, min, List, ℤ, pos, negsuc, Ok, Err, arith}
+use Rattle.std.proofs.Common.{◌≡◌, ℕ, zero, suc, ◌+◌, ◌<◌, ◌≤◌, min, List, ℤ, pos, negsuc, Ok, arith}
 use Rattle.closing.specs.declared.meaning.Closing.{Ghosts as ClosingOf}
 use Rattle.rig.specs.Runs.{Event, Step, Run, of_round, busy}
-use Rattle.rig.specs.Runs.Event.{feed, raise, answer, withdraw, clear, turn}
+use Rattle.rig.specs.Runs.Event.{feed, answer}
 use Rattle.rig.specs.Runs.Run.{done, next}
 use Rattle.rig.specs.Energy.{RunsDown}
 use Rattle.rig.specs.declared.pages.Round.{Round}
