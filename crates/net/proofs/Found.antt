@@ -4,14 +4,15 @@ use Rattle.std.proofs.lemmas.List.{length-drop, get_or-drop, get_or-map}
 use Rattle.std.specs.List.{AllWithin, HoldsAt}
 use Rattle.std.proofs.lemmas.Bool.Decides.{nat_tests}
 use Rattle.net.specs.Wires.{touches, far, nowhere, at}
+use Rattle.net.specs.Searches.{FailsAll, FirstPast}
 use Rattle.net.specs.Choices.{NoTwins, Meet, AreChain, NoChain, Stuck, OneChoice}
 use Rattle.net.specs.declared.wires.Wire.{Wire}
 use Rattle.net.specs.declared.wires.Pair.{Pair}
 use Rattle.net.specs.declared.wires.Choice.TheVariants.{Twins, Chain}
 
 -- what `position` answers
-abbrev pub IsFirst : (Wire → Bool) → List Wire → Option ℕ → Type 0
-IsFirst p ws r = MatchOption r (AllWithin (λ w. p w ≡ false) ws 0 (length ws)) (λ i. (i < length ws) × HoldsAt (λ w. p w ≡ true) ws i × AllWithin (λ w. p w ≡ false) ws 0 i)
+abbrev pub IsFirst : (Wire → Bool → Type 0) → List Wire → Option ℕ → Type 0
+IsFirst answers ws r = MatchOption r (AllWithin (λ w. answers w false) ws 0 (length ws)) (λ i. (i < length ws) × HoldsAt (λ w. answers w true) ws i × AllWithin (λ w. answers w false) ws 0 i)
 
 pub never : {x : Bool} → x ≡ true → x ≡ false → ⊥
 never t f = let e : true ≡ false = sym t ∙ f in let z : ◌≡◌ {A = ℕ} 0 1 = cc in omega arith
@@ -20,25 +21,26 @@ never t f = let e : true ≡ false = sym t ∙ f in let z : ◌≡◌ {A = ℕ} 
 pub stands : {X : Type 0} (f : X → Wire) (xs : List X) (k : ℕ) (w : Wire) (x : X) → k < length xs → w ≡ f x → x ≡ get_or xs k x → w ≡ at (map f xs) k
 stands f xs k w x h e is = e ∙ ap f is ∙ sym (get_or-map f xs k x nowhere h)
 
--- ---- the first place from `start` on at which the test passes, which is i more
-pub record FirstPast (p : Wire → Bool) (ws : List Wire) (start i : ℕ) : Type 0 where
-  pub within : start + i < length ws
-  pub there : p (at ws (start + i)) ≡ true
-  pub first : (k : ℕ) → start ≤ k → k < start + i → p (at ws k) ≡ false
-
-below_past : (p : Wire → Bool) (ws : List Wire) (start n : ℕ) → AllWithin (λ w. p w ≡ false) (drop start ws) 0 n → (k : ℕ) → start ≤ k → k < start + n → p (at ws k) ≡ false
-below_past p ws start n h k lo hi =
+-- ---- the first place from `start` on
+below_past : (answers : Wire → Bool → Type 0) (ws : List Wire) (start n : ℕ) → AllWithin (λ w. answers w false) (drop start ws) 0 n → FailsAll answers ws start (start + n)
+below_past answers ws start n h k lo hi =
     let e : start + (k - start) ≡ k = omega arith in
-    let g : p (get_or (drop start ws) (k - start) nowhere) ≡ false = h (k - start) nowhere (omega arith) (omega arith) in
-    ap (λ j. p (at ws j)) (sym e) ∙ ap p (sym (get_or-drop start ws (k - start) nowhere)) ∙ g
+    let g = h (k - start) nowhere (omega arith) (omega arith) in
+    subst (λ w. answers w false) (get_or-drop start ws (k - start) nowhere ∙ ap (λ j. at ws j) e) g
 
-pub past_found : (p : Wire → Bool) (ws : List Wire) (start : ℕ) (r : Option ℕ) → IsFirst p (drop start ws) r → MatchOption r ((k : ℕ) → start ≤ k → k < length ws → p (at ws k) ≡ false) (FirstPast p ws start)
-past_found p ws start None h = λ k lo hi. below_past p ws start (length (drop start ws)) h k lo (omega (arith, length-drop start ws))
-past_found p ws start (Some i) h = record {
+pub past_found : (answers : Wire → Bool → Type 0) (ws : List Wire) (start : ℕ) (r : Option ℕ) → IsFirst answers (drop start ws) r → MatchOption r (FailsAll answers ws start (length ws)) (λ i. FirstPast answers ws start (start + i))
+past_found answers ws start None h = λ k lo hi. below_past answers ws start (length (drop start ws)) h k lo (omega (arith, length-drop start ws))
+past_found answers ws start (Some i) h = record {
+  order = omega arith;
   within = omega (arith, h.0, length-drop start ws);
-  there = ap p (sym (get_or-drop start ws i nowhere)) ∙ h.1 nowhere;
-  first = below_past p ws start i h.2;
+  there = subst (λ w. answers w true) (get_or-drop start ws i nowhere) (h.1 nowhere);
+  first = below_past answers ws start i h.2;
 }
+
+-- what is found says what is wanted
+pub found_as : {A N N' : Type 0} {S S' : A → Type 0} (r : Option A) → (N → N') → ((x : A) → S x → S' x) → MatchOption r N S → MatchOption r N' S'
+found_as (Some x) f g h = g x h
+found_as None f g h = f h
 
 -- ---- chains
 one_meet : (ws : List Wire) (n : ℕ) (p q : Pair) → Meet ws n p → Meet ws n q → (p.low ≡ q.low) × (p.high ≡ q.high)

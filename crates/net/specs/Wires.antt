@@ -1,6 +1,7 @@
 -- Branches by their two ends alone: the numbers of two nodes.
-use Rattle.std.specs.Prelude.{ℕ, Bool, cond, ◌&&◌, ◌||◌, List, ◌==◌, slice_index_or}
+use Rattle.std.specs.Prelude.{ℕ, Bool, cond, ◌&&◌, ◌||◌, List, map, ◌==◌, slice_index_or}
 use Rattle.net.specs.declared.wires.Wire.{Wire}
+use Rattle.net.specs.declared.wired.Wired.{Ghosts}
 
 -- the same two ends, in either order
 abbrev pub same_ends : Wire → Wire → Bool
@@ -19,3 +20,7 @@ nowhere = record { from = 0; to = 0 }
 
 abbrev pub at : List Wire → ℕ → Wire
 at ws k = slice_index_or ws k nowhere
+
+-- the ends of what stands in a list
+abbrev pub wires_of : {B : Type 0} → Ghosts B → List B → List Wire
+wires_of B+ bs = map B+.wired bs

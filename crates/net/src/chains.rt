@@ -1,30 +1,27 @@
-ghost use Rattle.std.specs.Prelude.{◌≡◌, ℕ, ◌<◌, ◌≤◌, true, map, length, MatchOption};
+ghost use Rattle.std.specs.Prelude.{◌≡◌, ℕ, ◌<◌, ◌≤◌, true, length, MatchOption};
 ghost use Rattle.net.specs.declared.wires.Pair.{Pair as PairIs};
-ghost use Rattle.net.specs.Wires.{at, touches as ends_at};
+ghost use Rattle.net.specs.Wires.{at, wires_of, touches as ends_at};
 ghost use Rattle.net.specs.Searches.{Untouched, NextAt};
 ghost use Rattle.net.specs.Choices.{Meet, AreChain, NoChain, FirstChain};
 
-use crate::wires::{Pair, Wire, Wired};
+use crate::searches::first_past;
+use crate::wired::Wired;
+use crate::wires::{Pair, Wire};
 
 // The first branch from `start` on that ends at the node.
 fn next_at<B: Wired>(branches: &[B], node: usize, start: usize) -> Option<usize>
     ensures { MatchOption result
-        (Untouched (map B.Wired.wired branches.now) node start (length branches.now))
-        (NextAt (map B.Wired.wired branches.now) node start) }
+        (Untouched (wires_of B.Wired branches.now) node start (length branches.now))
+        (NextAt (wires_of B.Wired branches.now) node start) }
 {
-    let past = branches
-        .iter()
-        .map(|b| b.wire())
-        .skip(start)
-        .position(|w| w.touches(node))?;
-    Some(start + past)
+    first_past(branches, start, |w| w.touches(node))
 }
 
 // The two branches that alone end at the node.
 fn pair_at<B: Wired>(branches: &[B], node: usize) -> Option<Pair>
     ensures { MatchOption result
-        ((p : PairIs) → Meet (map B.Wired.wired branches.now) node p → ⊥)
-        (Meet (map B.Wired.wired branches.now) node) }
+        ((p : PairIs) → Meet (wires_of B.Wired branches.now) node p → ⊥)
+        (Meet (wires_of B.Wired branches.now) node) }
 {
     let low = next_at(branches, node, 0)?;
     let high = next_at(branches, node, low + 1)?;
@@ -37,8 +34,8 @@ fn pair_at<B: Wired>(branches: &[B], node: usize) -> Option<Pair>
 // The two branches that make a chain at the node.
 fn chain_at<B: Wired>(branches: &[B], port: Wire, node: usize) -> Option<Pair>
     ensures { MatchOption result
-        ((p : PairIs) → AreChain (map B.Wired.wired branches.now) port node p → ⊥)
-        (AreChain (map B.Wired.wired branches.now) port node) }
+        ((p : PairIs) → AreChain (wires_of B.Wired branches.now) port node p → ⊥)
+        (AreChain (wires_of B.Wired branches.now) port node) }
 {
     if port.touches(node) {
         return None;
@@ -54,7 +51,7 @@ fn chain_at<B: Wired>(branches: &[B], port: Wire, node: usize) -> Option<Pair>
 
 // No branch ends at a node of a larger number.
 fn largest_node<B: Wired>(branches: &[B]) -> usize
-    ensures { (k n : ℕ) → k < length branches.now → ends_at n (at (map B.Wired.wired branches.now) k) ≡ true → n ≤ result }
+    ensures { (k n : ℕ) → k < length branches.now → ends_at n (at (wires_of B.Wired branches.now) k) ≡ true → n ≤ result }
 {
     branches
         .iter()
@@ -69,8 +66,8 @@ fn largest_node<B: Wired>(branches: &[B]) -> usize
 // The chain that is taken where there are no twins, and its node.
 pub(crate) fn find_chain<B: Wired>(branches: &[B], port: Wire) -> Option<(Pair, usize)>
     ensures { MatchOption result
-        (NoChain (map B.Wired.wired branches.now) port)
-        (λ c. FirstChain (map B.Wired.wired branches.now) port c.1 c.0) }
+        (NoChain (wires_of B.Wired branches.now) port)
+        (λ c. FirstChain (wires_of B.Wired branches.now) port c.1 c.0) }
 {
     for node in 0..=largest_node(branches) {
         if let Some(pair) = chain_at(branches, port, node) {

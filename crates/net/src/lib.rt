@@ -3,7 +3,10 @@
 
 mod chains;
 mod finds;
+mod searches;
+mod wired;
 mod wires;
 
 pub use finds::choose;
-pub use wires::{Choice, Pair, Wire, Wired};
+pub use wired::Wired;
+pub use wires::{Choice, Pair, Wire};

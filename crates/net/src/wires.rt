@@ -1,5 +1,4 @@
 ghost use Rattle.std.specs.Prelude.{◌≡◌};
-ghost use Rattle.net.specs.declared.wires.Wire.{Wire as WireIs};
 ghost use Rattle.net.specs.Wires.{same_ends, touches, far};
 ghost use Rattle.net.specs.Choices.{chosen_pair};
 
@@ -24,14 +23,6 @@ pub enum Choice {
     Twins(Pair),
     /// Two that alone meet at this node.
     Chain(Pair, usize),
-}
-
-/// A record of a branch that knows its ends.
-pub trait Wired {
-    ghost wired: { Self → WireIs };
-
-    fn wire(&self) -> Wire
-        ensures { result ≡ wired self.now };
 }
 
 impl Wire {

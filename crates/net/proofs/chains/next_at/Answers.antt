@@ -1,27 +1,8 @@
-use Rattle.std.proofs.Common.{◌≡◌, Bool, true, false, map, drop, Some, None, arith, rules}
+use Rattle.std.proofs.Common.{◌≡◌, ℕ, sym, arith, rules}
 use Rattle.std.proofs.lemmas.List.{length-map}
-use Rattle.std.proofs.lemmas.Iterator.{IsFirst-from_position, YieldsList-from_slice, YieldsList-from_map}
-use Rattle.std.proofs.lemmas.Iterator.Consumers.{YieldsList-at}
-use Rattle.std.proofs.lemmas.Iterator.Adapters.{YieldsList-from_skip}
-use Rattle.net.specs.Wires.{touches}
-use Rattle.net.specs.declared.wires.Wire.{Wire}
-use Rattle.net.proofs.Found.{IsFirst, past_found}
+use Rattle.net.specs.Wires.{at, wires_of, touches}
+use Rattle.net.proofs.Found.{found_as}
 use Rattle.net.proofs.chains.next_at.Goals as goal
 
-pub returns-in_err-past : goal.returns-in_err-past
-returns-in_err-past g c =
-    let ws = map g.B.Wired.wired c.args.branches.now in
-    let test : Wire → Bool = touches c.args.node in
-    let first : IsFirst test (drop c.args.start ws) None = IsFirst-from_position _ _ _ (λ w. test w ≡ true) (λ w. test w ≡ false) (c.in_err-past.ensures.ran) (YieldsList-from_skip c.args.start (YieldsList-at c.skip.ensures.source (YieldsList-from_map _ g.B.Wired.wired (YieldsList-at c.map.ensures.source (YieldsList-from_slice c.args.branches.now c.iter.ensures.rest)) c.map.ensures.closure (λ x r q k. search rules))) c.skip.ensures.count) (λ x q k. search rules) (λ x q k. search rules) in
-    let h = past_found test ws c.args.start None first in
-    let e = length-map c.args.branches.now g.B.Wired.wired in
-    rw c.from_residual.ensures (λ k lo hi. h k lo (omega arith))
-
 pub returns : goal.returns
-returns g c =
-    let ws = map g.B.Wired.wired c.args.branches.now in
-    let test : Wire → Bool = touches c.args.node in
-    let first : IsFirst test (drop c.args.start ws) (Some c.in_ok-past.past) = IsFirst-from_position _ _ _ (λ w. test w ≡ true) (λ w. test w ≡ false) (c.in_ok-past.ensures.ran) (YieldsList-from_skip c.args.start (YieldsList-at c.skip.ensures.source (YieldsList-from_map _ g.B.Wired.wired (YieldsList-at c.map.ensures.source (YieldsList-from_slice c.args.branches.now c.iter.ensures.rest)) c.map.ensures.closure (λ x r q k. search rules))) c.skip.ensures.count) (λ x q k. search rules) (λ x q k. search rules) in
-    let h = past_found test ws c.args.start (Some c.in_ok-past.past) first in
-    let e = length-map c.args.branches.now g.B.Wired.wired in
-    record { order = omega arith; within = h.within; there = h.there; first = h.first }
+returns g c = found_as c.first_past.result (λ h k lo hi. let e = h k lo hi in search rules) (λ j h. record { order = h.order; within = h.within; there = let e = h.there in search rules; first = λ k lo hi. let e = h.first k lo hi in search rules }) c.first_past.ensures
