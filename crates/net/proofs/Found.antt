@@ -1,6 +1,7 @@
 -- What the searches find is what is taken.
-use Rattle.std.proofs.Common.{◌≡◌, ℕ, zero, suc, [], ◌∷◌, fold, le_refl, ◌+◌, ◌-◌, ◌<◌, ◌≤◌, max, Bool, true, false, List, map, length, Option, Some, None, MatchOption, drop, get_or, sym, ap, ◌∙◌, subst, inl, inr, eq-eqb, arith}
+use Rattle.std.proofs.Common.{◌≡◌, ℕ, zero, suc, [], ◌∷◌, fold, le_refl, ◌+◌, ◌-◌, ◌<◌, ◌≤◌, max, Bool, true, false, not, nat_eq, List, map, length, Option, Some, None, MatchOption, drop, get_or, sym, ap, ◌∙◌, subst, inl, inr, eq-eqb, arith}
 use Rattle.std.proofs.lemmas.List.{length-drop, get_or-drop, get_or-map}
+use Rattle.std.specs.Bool.{then_some}
 use Rattle.std.specs.List.{AllWithin, HoldsAt}
 use Rattle.std.proofs.lemmas.Bool.Decides.{nat_tests}
 use Rattle.net.specs.Wires.{touches, far, nowhere, at}
@@ -63,6 +64,11 @@ close_meet ws port n p m same q c =
     let pairs = one_meet ws n p q m c.meet in
     let e : far n (at ws q.low) ≡ far n (at ws q.high) = ap (λ i. far n (at ws i)) (sym pairs.0) ∙ same ∙ ap (λ i. far n (at ws i)) pairs.1 in
     never (eq-eqb _ _ e) c.apart
+
+-- the pair, if its far ends differ
+pub chain_if : (ws : List Wire) (port : Wire) (n : ℕ) (p : Pair) (b : Bool) → Meet ws n p → touches n port ≡ false → nat_eq (far n (at ws p.low)) (far n (at ws p.high)) ≡ b → MatchOption (then_some (not b) p) ((q : Pair) → AreChain ws port n q → ⊥) (AreChain ws port n)
+chain_if ws port n p true m inner same = close_meet ws port n p m (grind (arith, nat_tests))
+chain_if ws port n p false m inner apart = record { meet = m; inner = inner; apart = apart }
 
 -- ---- the largest node
 abbrev pub larger : {X : Type 0} → (X → Wire) → ℕ → X → ℕ

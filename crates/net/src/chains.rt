@@ -25,10 +25,9 @@ fn pair_at<B: Wired>(branches: &[B], node: usize) -> Option<Pair>
 {
     let low = next_at(branches, node, 0)?;
     let high = next_at(branches, node, low + 1)?;
-    match next_at(branches, node, high + 1) {
-        Some(_) => None,
-        None => Some(Pair { low, high }),
-    }
+    next_at(branches, node, high + 1)
+        .is_none()
+        .then_some(Pair { low, high })
 }
 
 // The two branches that make a chain at the node.
@@ -43,10 +42,7 @@ fn chain_at<B: Wired>(branches: &[B], port: Wire, node: usize) -> Option<Pair>
     let pair = pair_at(branches, node)?;
     let left = branches[pair.low].wire().far(node);
     let right = branches[pair.high].wire().far(node);
-    if left == right {
-        return None;
-    }
-    Some(pair)
+    (left != right).then_some(pair)
 }
 
 // No branch ends at a node of a larger number.
@@ -69,6 +65,8 @@ pub(crate) fn find_chain<B: Wired>(branches: &[B], port: Wire) -> Option<(Pair, 
         (NoChain (wires_of B.Wired branches.now) port)
         (λ c. FirstChain (wires_of B.Wired branches.now) port c.1 c.0) }
 {
+    // Kept: of all chains the one at the node of the smallest number is taken, so the numbers are gone through, and what `find_map` over a range
+    // answers is told by its calls alone.
     for node in 0..=largest_node(branches) {
         if let Some(pair) = chain_at(branches, port, node) {
             return Some((pair, node));

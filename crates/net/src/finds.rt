@@ -41,11 +41,10 @@ pub fn choose<B: Wired>(branches: &[B], port: Wire) -> Option<Choice>
         (Takes (wires_of B.Wired branches.now) port) }
     ensures only { OneChoice (wires_of B.Wired branches.now) port }
 {
+    // Kept: with `or_else` the check does not find the proof, and to write it is longer than this `if`.
     if let Some(pair) = find_twins(branches) {
         return Some(Choice::Twins(pair));
     }
-    if let Some((pair, node)) = find_chain(branches, port) {
-        return Some(Choice::Chain(pair, node));
-    }
-    None
+    let (pair, node) = find_chain(branches, port)?;
+    Some(Choice::Chain(pair, node))
 }

@@ -1,6 +1,4 @@
-use Rattle.std.proofs.Common.{◌≡◌, ℕ, sym, arith, rules}
-use Rattle.std.proofs.lemmas.List.{length-map}
-use Rattle.net.specs.Wires.{at, wires_of, touches}
+use Rattle.std.proofs.Common.{rules}
 use Rattle.net.proofs.Found.{found_as}
 use Rattle.net.proofs.chains.next_at.Goals as goal
 

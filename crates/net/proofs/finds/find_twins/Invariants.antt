@@ -1,6 +1,7 @@
-use Rattle.std.proofs.Common.{ℕ, ◌<◌, map, length}
+use Rattle.std.proofs.Common.{ℕ, ◌<◌, length}
+use Rattle.net.specs.Wires.{wires_of}
 use Rattle.net.specs.Searches.{Unlike}
 use Rattle.net.proofs.finds.find_twins.Given as goal
 
 abbrev pub invariant-loop-low : goal.invariant-loop-low
-invariant-loop-low g l = (k : ℕ) → k < l.low → Unlike (map g.B.Wired.wired l.branches) k (length l.branches)
+invariant-loop-low g l = (k : ℕ) → k < l.low → Unlike (wires_of g.B.Wired l.branches) k (length l.branches)
