@@ -121,11 +121,7 @@ impl Forest {
     {
         let Forest { mut branches, .. } = self;
         let Branch { tree, wire, .. } = branches.pop()?;
-        if branches.is_empty() && wire.same_ends(port) {
-            Some(tree)
-        } else {
-            None
-        }
+        (branches.is_empty() && wire.same_ends(port)).then_some(tree)
     }
 }
 

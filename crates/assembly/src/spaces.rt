@@ -2,13 +2,14 @@ ghost use Rattle.std.specs.Prelude.{◌≡◌, ◌≤◌, IfOk, vec_len, vec_cap
 ghost use Rattle.assembly.specs.Limits.{most_branches, most_boxes};
 
 use crate::branches::Branch;
+use reader::MOST_ELEMENTS;
 use std::alloc::{AllocError, Global};
 use tree::Room;
 
 // The most branches of a listing, one for each element, and the boxes that all joins of them take.
-const MOST_BRANCHES: usize = 32;
+const MOST_BRANCHES: usize = MOST_ELEMENTS;
 
-const MOST_BOXES: usize = 62;
+const MOST_BOXES: usize = 2 * MOST_BRANCHES - 2;
 
 /// The memory that one assembling needs, made beforehand.
 #[derive(Drop)]
