@@ -29,8 +29,7 @@ fn write_line(rt: &HostRuntime, line: Line) -> anyhow::Result<()> {
 }
 
 // Feeds one piece, and writes a line for each page that it fills.
-// Kept: it writes as the pages come, with no heap while feeding, and what a failed write leaves stands in no contract; so it is no library's, and
-// `conformance` has its like over a `Vec`.
+// Kept: `conformance` has its like over a `Vec`; what a failed write leaves stands in no contract, so neither is a library's.
 fn weigh_piece(
     rt: &HostRuntime,
     stream: &mut Stream<ListingTree, Source>,
