@@ -1,7 +1,7 @@
 //! A panel's filter: a listing tree behind a closing, with all that the rig promises, and the tail that dies.
 #![tactic(auto)]
 
-ghost use Rattle.std.specs.Prelude.{◌≡◌, ℕ, ℤ, None, codes, MatchResult};
+ghost use Rattle.std.specs.Prelude.{◌≡◌, ℕ, ℤ, None, codes, IfOk, MatchResult};
 ghost use Rattle.closing.specs.Meaning.{Bounded};
 ghost use Rattle.rig.specs.Pages.{Fresh};
 ghost use Rattle.rig.specs.Energy.{Promises};
@@ -12,6 +12,7 @@ ghost use Rattle.panel.specs.Tails.{tree_port, TailDies};
 
 use assembly::{Assembled, AssemblyFault, Workspace, assemble};
 use closing::{Closing, Source};
+use std::alloc::{AllocError, Global};
 use stream::Stream;
 use tree::ListingTree;
 
@@ -53,4 +54,20 @@ pub fn prepare(
         (λ f. Refuses text.now panel_rate panel_unit (codes "R1") f × (place.new ≡ place.old)) }
 {
     assemble(text, RATE, UNIT, b"R1", space, place)
+}
+
+/// The tree of a listing, with the panel's rate and unit and the ear on the resistor `R1`, and what is known of it; or why there is none.
+pub fn tree_of(
+    heap: Global,
+    text: &[u8],
+) -> Result<Result<(ListingTree, Assembled), AssemblyFault>, AllocError>
+    ensures { IfOk result (λ made. MatchResult made
+        (λ x. Accepts text.now panel_rate panel_unit (codes "R1") x.0.tree x.1)
+        (λ f. Refuses text.now panel_rate panel_unit (codes "R1") f)) }
+{
+    let mut tree = ListingTree::built_in();
+    Ok(match prepare(text, Workspace::new(heap)?, &mut tree) {
+        Ok(made) => Ok((tree, made)),
+        Err(fault) => Err(fault),
+    })
 }
