@@ -1,19 +1,16 @@
 // Assembles the listings that stdin names, and says of each what its tree is, or by which rule it is refused and where.
 #![tactic(auto)]
 
-use assembly::Workspace;
-use panel::prepare;
+use panel::tree_of;
 use std::{fs, io};
 use told::Tells;
-use tree::ListingTree;
 
 fn main(rt: HostRuntime) -> io::Result<()> {
     for line in rt.lines(rt.alloc()) {
         let name = line?;
         let text = fs::read(&rt, format!(in rt.alloc(); "{name}.cir")?)?;
-        let mut tree = ListingTree::built_in();
-        match prepare(&text, Workspace::new(rt.alloc())?, &mut tree) {
-            Ok(made) => println!(rt;
+        match tree_of(rt.alloc(), &text)? {
+            Ok((_, made)) => println!(rt;
                 "{name}\tratio {} {} size {}",
                 made.num, made.den, made.elements
             )?,

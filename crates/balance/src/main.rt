@@ -1,10 +1,10 @@
 // Feeds samples from standard input through the listing `line.cir`, piece by piece, and writes a line for each page.
 #![tactic(auto)]
 
-use assembly::{Assembled, Workspace};
+use assembly::Assembled;
 use closing::Source;
 use lines::{Line, page_line, refusal_line};
-use panel::{listen, prepare, source};
+use panel::{listen, source, tree_of};
 use std::fs;
 use std::io::{Read, Write};
 use stream::Stream;
@@ -13,12 +13,10 @@ use tree::ListingTree;
 /// How many bytes are read at once.
 const PIECE: usize = 4096;
 
-// Kept: what a file holds stands in no contract, so the reading of `line.cir` is no library's, and each program has these lines.
 fn main(rt: HostRuntime) -> anyhow::Result<()> {
     let text = fs::read(&rt, "line.cir").unwrap_or(Vec::new(rt.alloc()));
-    let mut tree = ListingTree::built_in();
-    match prepare(&text, Workspace::new(rt.alloc())?, &mut tree) {
-        Ok(made) => weigh(&rt, tree, made),
+    match tree_of(rt.alloc(), &text)? {
+        Ok((tree, made)) => weigh(&rt, tree, made),
         Err(fault) => write_line(&rt, refusal_line(&fault)),
     }
 }

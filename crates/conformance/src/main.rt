@@ -2,10 +2,10 @@
 // `filter` writes them, and lines as `balance` does. Standard input names the runs; NAME.cir, NAME.raw, NAME.filter and NAME.balance belong to each.
 #![tactic(auto)]
 
-use assembly::{Assembled, Workspace};
+use assembly::Assembled;
 use closing::Source;
 use lines::{page_line, refusal_line};
-use panel::{listen, prepare, source};
+use panel::{listen, source, tree_of};
 use std::fs;
 use stream::Stream;
 use tree::ListingTree;
@@ -19,9 +19,8 @@ fn stream_of(
     text: &[u8],
     out: &mut Vec<u8>,
 ) -> anyhow::Result<Option<(Stream<ListingTree, Source>, Assembled)>> {
-    let mut tree = ListingTree::built_in();
-    match prepare(text, Workspace::new(rt.alloc())?, &mut tree) {
-        Ok(made) => Ok(Some((listen(tree, source()), made))),
+    match tree_of(rt.alloc(), text)? {
+        Ok((tree, made)) => Ok(Some((listen(tree, source()), made))),
         Err(fault) => {
             out.extend_from_slice(refusal_line(&fault).text())?;
             Ok(None)

@@ -1,9 +1,8 @@
 // Filters samples from standard input through the listing `line.cir`, piece by piece, and writes what is heard.
 #![tactic(auto)]
 
-use assembly::Workspace;
 use lines::refusal_line;
-use panel::{listen, prepare, source};
+use panel::{listen, source, tree_of};
 use std::fs;
 use std::io::{Read, Write};
 use tree::ListingTree;
@@ -11,12 +10,10 @@ use tree::ListingTree;
 /// How many bytes are read at once.
 const PIECE: usize = 4096;
 
-// Kept: what a file holds stands in no contract, so the reading of `line.cir` is no library's, and each program has these lines.
 fn main(rt: HostRuntime) -> anyhow::Result<()> {
     let text = fs::read(&rt, "line.cir").unwrap_or(Vec::new(rt.alloc()));
-    let mut tree = ListingTree::built_in();
-    match prepare(&text, Workspace::new(rt.alloc())?, &mut tree) {
-        Ok(_) => pour(&rt, tree),
+    match tree_of(rt.alloc(), &text)? {
+        Ok((tree, _)) => pour(&rt, tree),
         Err(fault) => {
             rt.stdout().write_all(refusal_line(&fault).text())?;
             Ok(())

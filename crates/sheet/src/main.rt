@@ -7,21 +7,18 @@ mod shown;
 mod words;
 
 use anyhow::anyhow;
-use assembly::Workspace;
-use panel::{prepare, source};
+use panel::{source, tree_of};
 use reader::read;
 use report::report_on;
 use std::fs;
 use std::io::Read;
-use tree::ListingTree;
 
-// Kept: what a file holds stands in no contract, so the reading of `line.cir` is no library's, and each program has these lines.
 fn main(rt: HostRuntime) -> anyhow::Result<()> {
     let text = fs::read(&rt, "line.cir").unwrap_or(Vec::new(rt.alloc()));
-    let mut tree = ListingTree::built_in();
-    if let Err(fault) = prepare(&text, Workspace::new(rt.alloc())?, &mut tree) {
-        return words::print_refusal(&rt, &text, &fault);
-    }
+    let tree = match tree_of(rt.alloc(), &text)? {
+        Ok((tree, _)) => tree,
+        Err(fault) => return words::print_refusal(&rt, &text, &fault),
+    };
     let Ok(listing) = read(&text) else {
         return Err(anyhow!("the listing is refused"));
     };
