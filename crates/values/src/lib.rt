@@ -167,11 +167,7 @@ pub fn value_of(kind: Kind, word: &[u8]) -> Result<Value, Wrong>
         return Err(Wrong::Form);
     }
     let (front, back) = word.split_at(count);
-    let Some(times) = factor_of(kind, back) else {
-        return Err(Wrong::Form);
-    };
-    let Ok(scaled) = u32::try_from(decimal_of(front) * times) else {
-        return Err(Wrong::Range);
-    };
+    let times = factor_of(kind, back).ok_or(Wrong::Form)?;
+    let scaled = u32::try_from(decimal_of(front) * times).map_err(|_| Wrong::Range)?;
     Value::new(scaled).ok_or(Wrong::Range)
 }
