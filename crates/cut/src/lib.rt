@@ -11,7 +11,7 @@ use fixed::Fixed;
 use std::alloc::{AllocError, Global};
 
 // A part of a text: the place of its first byte, counted from 0, and how many bytes it has.
-#[derive(Clone, Copy)]
+#[derive(Clone, Copy, Debug, PartialEq, Eq)]
 pub struct Span {
     pub place: usize,
     pub len: usize,

@@ -8,7 +8,7 @@ mod room;
 pub use room::Fixed;
 
 /// There was no room for one more item.
-#[derive(Clone, Copy, Debug, PartialEq)]
+#[derive(Clone, Copy, Debug, PartialEq, Eq)]
 pub struct Full;
 
 impl<T: Copy, const N: usize> Fixed<T, N> {

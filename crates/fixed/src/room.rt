@@ -1,5 +1,6 @@
 use std::marker::Model;
 
+// Kept: no `ArrayVec` of the kit, whose `new` asks `Default` of the items: an element of a listing has no such value, since its value is from 1 on.
 /// At most `N` items, in the order in which they came.
 #[derive(Drop)]
 pub struct Fixed<T, const N: usize> {

@@ -7,7 +7,7 @@ use Rattle.values.specs.declared.Kind.TheVariants.{Resistor}
 use Rattle.values.proofs.OneValue.{some_value}
 use Rattle.reader.specs.declared.LineKind.{LineKind}
 use Rattle.refusals.specs.declared.Rule.{Rule}
-use Rattle.refusals.specs.declared.Rule.TheVariants.{Size, TooLong, Shape, BadName, BadValue, OutOfRange, Twice, Full, Wanting, Joined}
+use Rattle.refusals.specs.declared.Rule.TheVariants.{Size, Wanting}
 use Rattle.refusals.specs.declared.Fault.{Fault}
 use Rattle.reader.specs.declared.Element.{Element}
 use Rattle.reader.specs.declared.PortRecord.{PortRecord}
@@ -17,23 +17,12 @@ use Rattle.reader.specs.Lines.{nth, kind_of_line, Line, LineIn, Closed, PartLine
 use Rattle.reader.specs.Records.{Ports}
 use Rattle.reader.specs.Faults.{LineFaultBy, PortBefore, FaultBefore, SizeFault, FaultAt}
 use Rattle.reader.specs.Answers.{Whole}
-use Rattle.reader.specs.Inner.{standing, NextStart, ReaderFault, Taken, port_list, Sofar}
+use Rattle.reader.specs.Inner.{standing, ReaderFault, Taken, port_list, Sofar}
 use Rattle.refusals.specs.Refusals.{number}
 use Rattle.refusals.specs.Order.{Least}
+use Rattle.refusals.proofs.Lesser.{rule_least}
 use Rattle.reader.proofs.Few.{nth_between, kind_few}
 use Rattle.reader.proofs.Steps.{onward, step, refused}
-
-rule_least : (r : Rule) → 1 ≤ number r
-rule_least Size = omega arith
-rule_least TooLong = omega arith
-rule_least Shape = omega arith
-rule_least BadName = omega arith
-rule_least BadValue = omega arith
-rule_least OutOfRange = omega arith
-rule_least Twice = omega arith
-rule_least Full = omega arith
-rule_least Wanting = omega arith
-rule_least Joined = omega arith
 
 -- a text of no size or of too great a one is refused at once
 pub size_refused : (t : List ℕ) → (length t ≡ 0) ⊎ (largest_text < length t) → Least (FaultAt t) (Some (record { place = 0; rule = Size }))
@@ -80,7 +69,7 @@ module _ {t : List ℕ} {q : ℕ} {so : Reading} (h : Sofar t q so) (on : q < le
       let w = subst (λ k. Least (ReaderFault t q (q + (b - q)) cut.0 k so) None × Taken t cut.0 k so y) kind_is x in
       let low = ends.low in
       let high = ends.high in
-      let next' : NextStart t (q + (b - q)) q' = (λ l. omega arith, λ l. omega arith) in
+      let next' : q' ≡ min (q + (b - q) + 1) (length t) = omega arith in
       ((onward h on (q + (b - q)) cut.0 ends' cut.1 w.0 q' next').0, step h on (q + (b - q)) cut.0 ends' cut.1 w.0 q' next' y w.1)
 
   pub line_fails : (f : Fault) → Least (ReaderFault t q (q + (b - q)) cut.0 kd so) (Some f) → Least (FaultAt t) (Some f)

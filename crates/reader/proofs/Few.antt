@@ -19,7 +19,8 @@ use Rattle.reader.specs.declared.reading.Reading.{Reading}
 use Rattle.reader.specs.Limits.{most_elements}
 use Rattle.reader.specs.Lines.{nowhere, nth, kind_of_line, width, Carries}
 use Rattle.reader.specs.Records.{Among}
-use Rattle.reader.specs.Faults.{FormFault, rule_for, NameRule}
+use Rattle.refusals.specs.Refusals.{rule_for}
+use Rattle.reader.specs.Faults.{FormFault, NameRule}
 use Rattle.reader.specs.Inner.{Entered, Overfull, ReaderFault}
 use Rattle.refusals.specs.Order.{NotBefore, Least}
 use Rattle.refusals.proofs.Leasts.{least_cover, not_before_self}

@@ -1,23 +1,21 @@
 -- The contract of the reader leaves one answer.
-use Rattle.std.proofs.Common.{◌≡◌, ℕ, cond, eqb, List, [], ◌∷◌, length, get_or, Ok, Err, Result, MatchResult, sym, refl, ap, ◌∙◌, subst, ⊎_elim, arith}
+use Rattle.std.proofs.Common.{◌≡◌, ℕ, List, [], ◌∷◌, length, get_or, Ok, Err, Result, MatchResult, sym, ap, ◌∙◌, subst, ⊎_elim, arith}
 use Rattle.std.proofs.lemmas.Bool.{cases_order}
 use Rattle.cut.specs.Cuts.{bytes}
 use Rattle.cut.specs.declared.Span.{Span}
 use Rattle.values.specs.Values.{Valued}
 use Rattle.values.proofs.Numerals.{valued_same}
 use Rattle.values.proofs.OneValue.{same_value}
-use Rattle.refusals.specs.declared.Rule.{Rule}
-use Rattle.refusals.specs.declared.Rule.TheVariants.{Size, TooLong, Shape, BadName, BadValue, OutOfRange, Twice, Full, Wanting, Joined}
 use Rattle.reader.specs.declared.LineKind.TheVariants.{Part}
 use Rattle.reader.specs.declared.Node.{Node}
 use Rattle.reader.specs.declared.Element.{Element}
 use Rattle.refusals.specs.declared.Fault.{Fault}
 use Rattle.reader.specs.declared.Listing.{Listing}
 use Rattle.reader.specs.declared.PortRecord.{PortRecord}
-use Rattle.refusals.specs.Refusals.{number}
 use Rattle.reader.specs.Lines.{nth, Line, PartLine, PortLine}
 use Rattle.reader.specs.Records.{NumberIs, ElementIs, PortIs, Elements, Ports}
 use Rattle.reader.specs.Answers.{Reads, Refuses, SameAnswer, Only}
+use Rattle.refusals.proofs.Lesser.{same_number}
 use Rattle.reader.proofs.Once.{records_once, nodes_once}
 use Rattle.reader.proofs.Steps.{stands_same}
 
@@ -42,25 +40,6 @@ port_once t ns l x y a b =
     let f = number_once t ns (nth l.fields 1) x.ends.from.index y.ends.from.index a.from b.from in
     let o = number_once t ns (nth l.fields 2) x.ends.to.index y.ends.to.index a.to b.to in
     λ i. record { name = n i; ends = record { from = record { index = f i }; to = record { index = o i } } }
-
--- the rule with a number
-abbrev rule_at : ℕ → Rule
-rule_at n = cond (eqb n 1) Size (cond (eqb n 2) TooLong (cond (eqb n 3) Shape (cond (eqb n 4) BadName (cond (eqb n 5) BadValue (cond (eqb n 6) OutOfRange (cond (eqb n 7) Twice (cond (eqb n 8) Full (cond (eqb n 9) Wanting Joined))))))))
-
-rule_of_number : (r : Rule) → rule_at (number r) ≡ r
-rule_of_number Size = refl
-rule_of_number TooLong = refl
-rule_of_number Shape = refl
-rule_of_number BadName = refl
-rule_of_number BadValue = refl
-rule_of_number OutOfRange = refl
-rule_of_number Twice = refl
-rule_of_number Full = refl
-rule_of_number Wanting = refl
-rule_of_number Joined = refl
-
-same_number : (r s : Rule) → number r ≡ number s → r ≡ s
-same_number r s e = sym (rule_of_number r) ∙ ap rule_at e ∙ rule_of_number s
 
 module _ (t : List ℕ) where
   -- two readings are one

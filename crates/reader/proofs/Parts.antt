@@ -20,7 +20,8 @@ use Rattle.reader.specs.declared.Node.{Node}
 use Rattle.reader.specs.Limits.{most_nodes}
 use Rattle.reader.specs.Lines.{nth}
 use Rattle.reader.specs.Records.{Among, NumberIs}
-use Rattle.reader.specs.Faults.{rule_for, NameFault}
+use Rattle.refusals.specs.Refusals.{rule_for}
+use Rattle.reader.specs.Faults.{NameFault}
 use Rattle.reader.specs.Inner.{Overfull, Entered, ValueFaultOf, ValueIs}
 use Rattle.refusals.specs.Refusals.{number}
 use Rattle.refusals.specs.Order.{Least}

@@ -1,5 +1,5 @@
 -- What one line adds to what was read.
-use Rattle.std.proofs.Common.{◌≡◌, ℕ, ◌+◌, ◌-◌, ◌<◌, ◌≤◌, Bool, true, false, cond, eqb, ◌⊎◌, List, [], ◌∷◌, ◌++◌, map, length, get_or, is_some, Some, None, Option, sym, refl, ap, ◌∙◌, subst, inl, inr, ⊎_elim, arith}
+use Rattle.std.proofs.Common.{◌≡◌, ℕ, ◌+◌, ◌-◌, ◌<◌, ◌≤◌, Bool, true, false, cond, eqb, ◌⊎◌, List, [], ◌∷◌, ◌++◌, map, length, get_or, is_some, Some, None, Option, sym, refl, ap, ◌∙◌, subst, inl, inr, ⊎_elim, arith, min}
 use Rattle.std.specs.Char.{to_ascii_lowercase}
 use Rattle.std.specs.List.{AllWithin}
 use Rattle.std.proofs.lemmas.Bool.{cases_order, cases_lt, cases_Bool, cond-true, cond-false}
@@ -26,7 +26,7 @@ use Rattle.reader.specs.Limits.{most_elements}
 use Rattle.reader.specs.Lines.{nowhere, nth, kind_of_line, past, width, Carries, Line, LineIn, Closed, Stands, PartLine, PortLine}
 use Rattle.reader.specs.Records.{ReadFrom, Records, Among, NodeUse, Nodes, NumberIs, ElementIs, PortIs, Names, Ports}
 use Rattle.reader.specs.Faults.{NameRule, LineFaultBy, UsedBefore, FilledBefore, PortBefore, Crowded, LineFault, FaultBefore}
-use Rattle.reader.specs.Inner.{standing, NextStart, Entered, Overfull, CrowdedFirst, CrowdedSecond, BothEnds, ReaderFault, Taken, port_list, Sofar}
+use Rattle.reader.specs.Inner.{standing, Entered, Overfull, CrowdedFirst, CrowdedSecond, BothEnds, ReaderFault, Taken, port_list, Sofar}
 use Rattle.refusals.specs.Order.{Least}
 use Rattle.reader.proofs.Few.{nth_between}
 use Rattle.reader.proofs.Once.{records_once, same_line, use_between, use_early, nodes_once}
@@ -289,19 +289,17 @@ module _ {t : List ℕ} {q : ℕ} {so : Reading} (h : Sofar t q so) (on : q < le
         (where_is (length t) y.0 y.2),
   )
 
-  module _ (none : Least (ReaderFault t q b fs kd so) None) (q' : ℕ) (next : NextStart t b q') where
+  module _ (none : Least (ReaderFault t q b fs kd so) None) (q' : ℕ) (next : q' ≡ min (b + 1) (length t)) where
     pub onward : (q < q') × (q' ≤ length t) × (q' ≤ b + 1)
-    onward =
-        ⊎_elim (λ l. (omega (arith, next.0 l, ends.low), omega (arith, next.0 l), omega (arith, next.0 l)))
-        (λ l. (omega (arith, next.1 l, ends.low), omega (arith, next.1 l, ends.high), omega (arith, next.1 l))) (cases_lt b (length t))
+    onward = (omega (arith, next, ends.low), omega (arith, next), omega (arith, next))
 
     passed : (a : ℕ) → a < q' → b < a → ⊥
     passed a l m = omega (arith, onward.2)
 
     begins_next : q' < length t → StartsLine t q'
     begins_next l =
-        let inside : b < length t = ⊎_elim (λ x. x) (λ x. absurd (omega (arith, next.1 x))) (cases_lt b (length t)) in
-        let e = next.0 inside in
+        let inside : b < length t = omega (arith, next) in
+        let e : q' ≡ b + 1 = omega (arith, next) in
         let back : b ≡ q' - 1 = omega (arith, e) in
         (l, inr (omega (arith, e), ap (λ n. get_or t n 0) (sym back) ∙ ends.closed inside))
 
@@ -385,7 +383,7 @@ module _ {t : List ℕ} {q : ℕ} {so : Reading} (h : Sofar t q so) (on : q < le
         let w = between 1 (omega arith) in
         let v = between 2 l in
         let o = second_later l in
-        let far : (nth fs 2).place < q' = ⊎_elim (λ x. omega (arith, next.0 x, v.1, v.2)) (λ x. omega (arith, next.1 x, v.1, v.2)) (cases_lt b (length t)) in
+        let far : (nth fs 2).place < q' = omega (arith, next, v.1, v.2, ends.high) in
         nodes_step t (nth fs 2).place q' mid ns' (nth fs 2) (omega arith) far (use_here 2 q' c (inr refl) l far)
         (λ s u.
         ⊎_elim (λ x. inl (use_early t q (nth fs 2).place s x (omega (arith, x.early, w.0, w.1, o))))

@@ -7,9 +7,9 @@ use Rattle.names.specs.Alike.{Alike}
 use Rattle.values.specs.Values.{ValueFault}
 use Rattle.values.specs.declared.Kind.{Kind}
 use Rattle.values.specs.declared.Wrong.{Wrong}
-use Rattle.values.specs.declared.Wrong.TheVariants.{Form, Range}
 use Rattle.refusals.specs.declared.Rule.{Rule}
-use Rattle.refusals.specs.declared.Rule.TheVariants.{Size, TooLong, Shape, BadName, BadValue, OutOfRange, Twice, Full, Wanting, Joined}
+use Rattle.refusals.specs.declared.Rule.TheVariants.{Size, TooLong, Shape, BadName, Twice, Full, Wanting, Joined}
+use Rattle.refusals.specs.Refusals.{rule_for}
 use Rattle.reader.specs.declared.LineKind.{LineKind}
 use Rattle.reader.specs.declared.LineKind.TheVariants.{Passed, Part, Port, Close, Strange}
 use Rattle.reader.specs.declared.Node.{Node}
@@ -46,10 +46,6 @@ LongFault a b p r = (p ≡ a + largest_line) × ((a + largest_line < b) × (r �
 -- a field is missing, at the end of the line
 abbrev pub MissingFault : ℕ → LineKind → ℕ → ℕ → Rule → Type 0
 MissingFault b kd n p r = (p ≡ b) × ((n < width kd) × (r ≡ Shape))
-
-abbrev pub rule_for : Wrong → Rule
-rule_for Form = BadValue
-rule_for Range = OutOfRange
 
 -- the value of an element is wrong
 abbrev pub ValueFaultAt : List ℕ → LineKind → List Span → ℕ → Rule → Type 0

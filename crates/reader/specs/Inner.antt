@@ -1,5 +1,5 @@
 -- What the functions within the reader promise. The contract of `read` does not rest on it.
-use Rattle.std.specs.Prelude.{◌≡◌, ℕ, ◌+◌, ◌<◌, ◌≤◌, Bool, true, false, cond, ◌⊎◌, List, [], ◌∷◌, ◌++◌, length, take, is_some, Some, None, Option, ◌==◌}
+use Rattle.std.specs.Prelude.{◌≡◌, ℕ, ◌<◌, ◌≤◌, Bool, true, false, cond, ◌⊎◌, List, [], ◌∷◌, ◌++◌, length, take, is_some, Some, None, Option, ◌==◌}
 use Rattle.cut.specs.Cuts.{bytes, stop, StartsLine, FieldsIn}
 use Rattle.cut.specs.declared.Span.{Span}
 use Rattle.values.specs.Values.{Valued}
@@ -22,10 +22,6 @@ use Rattle.reader.specs.Faults.{ValueFaultAt, EndsFault, PlainFault, LineFaultBy
 -- the kind as which a line that starts at a stands, by whether .end came before
 abbrev pub standing : ℕ → Bool → LineKind → LineKind
 standing a closed kd = cond (a == 0) Passed (cond closed (past kd) kd)
-
--- the next line starts past the line feed at b, or at the end of the text
-abbrev pub NextStart : List ℕ → ℕ → ℕ → Type 0
-NextStart t b q = (b < length t → q ≡ b + 1) × (length t ≤ b → q ≡ b)
 
 -- there is no room for the node s
 abbrev pub Overfull : List ℕ → List Node → Span → Type 0

@@ -5,44 +5,28 @@ ghost use Rattle.reader.specs.Limits.{most_elements};
 ghost use Rattle.refusals.specs.Order.{Least};
 ghost use Rattle.reader.specs.Lines.{nth};
 ghost use Rattle.reader.specs.Records.{Among};
-ghost use Rattle.reader.specs.Faults.{FormsFault, LongFault, MissingFault, NameFault, rule_for};
+ghost use Rattle.reader.specs.Faults.{FormsFault, LongFault, MissingFault, NameFault};
 ghost use Rattle.reader.specs.Inner.{PlainFaultOf, ValueFaultOf, ValueIs};
 
 use crate::line::CutLine;
 use crate::{Element, LARGEST_LINE, LineKind, MOST_ELEMENTS};
 use names::find;
 use refusals::{Fault, Rule, sooner};
-use values::{Value, Wrong, value_of};
-
-// Kept: not `From`, since both types are of crates below.
-fn rule_of(wrong: Wrong) -> Rule
-    ensures { result ≡ rule_for wrong }
-{
-    match wrong {
-        Wrong::Form => Rule::BadValue,
-        Wrong::Range => Rule::OutOfRange,
-    }
-}
+use values::{Value, value_of};
 
 impl CutLine<'_> {
     fn long_fault(&self) -> Option<Fault>
         ensures { Least (LongFault self.now.span.place (stop_of self.now.span)) result }
     {
-        if self.span.len > LARGEST_LINE {
-            Some(Rule::TooLong.at(self.span.place + LARGEST_LINE))
-        } else {
-            None
-        }
+        (self.span.len > LARGEST_LINE).then_some(Rule::TooLong.at(self.span.place + LARGEST_LINE))
     }
 
     fn missing_fault(&self) -> Option<Fault>
         ensures { Least (MissingFault (stop_of self.now.span) self.now.kind (length self.now.fields.now)) result }
     {
-        if self.fields.len() < self.kind.width() {
-            Some(Rule::Shape.at(self.span.place + self.span.len))
-        } else {
-            None
-        }
+        (self.fields.len() < self.kind.width()).then_some(Rule::Shape.at(
+            self.span.place + self.span.len,
+        ))
     }
 
     fn forms_fault(&self) -> Option<Fault>
@@ -65,10 +49,10 @@ impl CutLine<'_> {
         let [_, _, _, field, ..] = self.fields else {
             return Ok(None);
         };
-        match value_of(part, field.of(self.text)) {
-            Ok(value) => Ok(Some(value)),
-            Err(wrong) => Err(rule_of(wrong).at(field.place)),
-        }
+        let value = value_of(part, field.of(self.text)).map_err(|wrong| Rule::from(wrong).at(
+            field.place,
+        ))?;
+        Ok(Some(value))
     }
 
     // The name of an element is used before, or there are elements enough; or there is a port already.
@@ -80,6 +64,7 @@ impl CutLine<'_> {
         };
         match self.kind {
             LineKind::Part(_) => {
+                // Kept: `is_some` was tried, and left open what the search says of the elements.
                 if let Some(_) = find(elements, self.text, name.of(self.text)) {
                     Some(Rule::Twice.at(name.place))
                 } else if elements.len() >= MOST_ELEMENTS {

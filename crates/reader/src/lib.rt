@@ -26,7 +26,7 @@ pub const MOST_ELEMENTS: usize = 32;
 pub const MOST_NODES: usize = 33;
 
 // What a line is: passed over, an element, the port, .end or none of them.
-#[derive(Clone, Copy)]
+#[derive(Clone, Copy, Debug, PartialEq, Eq)]
 pub enum LineKind {
     Passed,
     Part(Kind),
@@ -36,27 +36,27 @@ pub enum LineKind {
 }
 
 // A node, by its name where the text has it first.
-#[derive(Clone, Copy)]
+#[derive(Clone, Copy, Debug, PartialEq, Eq)]
 pub struct Node {
     pub name: Span,
 }
 
 // Kept: nodes are named by index, since reading uses no heap and many ends meet at one node.
 // Which node of a listing: its index in the list of nodes, from 0 in the order of first appearance.
-#[derive(Clone, Copy, PartialEq)]
+#[derive(Clone, Copy, Debug, PartialEq, Eq)]
 pub struct NodeNumber {
     pub index: usize,
 }
 
 // The two ends of an element or of the port.
-#[derive(Clone, Copy)]
+#[derive(Clone, Copy, Debug, PartialEq, Eq)]
 pub struct Ends {
     pub from: NodeNumber,
     pub to: NodeNumber,
 }
 
 // What an element line says. The value is in the unit that the kind counts: ohms, picofarads or microhenries.
-#[derive(Clone, Copy)]
+#[derive(Clone, Copy, Debug, PartialEq, Eq)]
 pub struct Element {
     pub name: Span,
     pub kind: Kind,
@@ -65,7 +65,7 @@ pub struct Element {
 }
 
 // What a port line says.
-#[derive(Clone, Copy)]
+#[derive(Clone, Copy, Debug, PartialEq, Eq)]
 pub struct PortRecord {
     pub name: Span,
     pub ends: Ends,

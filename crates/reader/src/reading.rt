@@ -28,6 +28,7 @@ pub struct Reading {
     pub(crate) nodes: Fixed<Node, MOST_NODES>,
     pub(crate) elements: Fixed<Element, MOST_ELEMENTS>,
     pub(crate) port: Option<PortRecord>,
+    // Kept: it says that .end was read, and no value goes with it.
     pub(crate) closed: bool,
 }
 

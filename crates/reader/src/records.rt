@@ -39,8 +39,8 @@ pub(crate) fn enter(
         return Ok(NodeNumber { index });
     }
     let index = nodes.as_slice().len();
-    match nodes.push(Node { name }) {
-        Ok(()) => Ok(NodeNumber { index }),
-        Err(_) => Err(Rule::Full.at(name.place)),
-    }
+    nodes
+        .push(Node { name })
+        .map_err(|_| Rule::Full.at(name.place))?;
+    Ok(NodeNumber { index })
 }

@@ -1,6 +1,8 @@
 -- The refusals of reading.
 use Rattle.std.specs.Prelude.{ℕ}
 use Rattle.told.specs.declared.Told.{Told}
+use Rattle.values.specs.declared.Wrong.{Wrong}
+use Rattle.values.specs.declared.Wrong.TheVariants.{Form, Range}
 use Rattle.refusals.specs.declared.Rule.{Rule}
 use Rattle.refusals.specs.declared.Fault.{Fault}
 use Rattle.refusals.specs.declared.Rule.TheVariants.{Size, TooLong, Shape, BadName, BadValue, OutOfRange, Twice, Full, Wanting, Joined}
@@ -17,6 +19,11 @@ number Twice = 7
 number Full = 8
 number Wanting = 9
 number Joined = 10
+
+-- the rule that a value breaks
+abbrev pub rule_for : Wrong → Rule
+rule_for Form = BadValue
+rule_for Range = OutOfRange
 
 -- a refusal as it is told: its layer, which is 1 for all of reading, the number of its rule, and its place
 abbrev pub told : Fault → Told

@@ -2,10 +2,11 @@
 #![tactic(auto)]
 
 ghost use Rattle.std.specs.Prelude.{◌≡◌, ◌≤◌};
-ghost use Rattle.refusals.specs.Refusals.{number, told};
+ghost use Rattle.refusals.specs.Refusals.{number, rule_for, told};
 ghost use Rattle.refusals.specs.Order.{first_of};
 
 use told::{Tells, Told};
+use values::Wrong;
 
 // The rules that a listing may break, in the order of their numbers.
 #[derive(Clone, Copy, Debug, PartialEq, Eq, PartialOrd, Ord)]
@@ -46,6 +47,18 @@ impl Rule {
         ensures { result ≡ record { place = place; rule = self } }
     {
         Fault { place, rule: self }
+    }
+}
+
+// What is wrong with a value, as a rule of the listing.
+impl From<Wrong> for Rule {
+    ghost from_gives = { λ w r. r ≡ rule_for w };
+
+    fn from(wrong: Wrong) -> Rule {
+        match wrong {
+            Wrong::Form => Rule::BadValue,
+            Wrong::Range => Rule::OutOfRange,
+        }
     }
 }
 
