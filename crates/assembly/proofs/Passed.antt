@@ -1,5 +1,5 @@
--- What `ok_or`, `map_err` and a call that was made room for pass on.
-use Rattle.std.proofs.Common.{◌≡◌, ℕ, Bool, true, false, cond, Some, None, Option, Result, Ok, Err, MatchOption, MatchResult, IsErrAnd, sym, ◌∙◌, subst, arith}
+-- What `ok_or` and a call that was made room for pass on.
+use Rattle.std.proofs.Common.{◌≡◌, ℕ, Bool, true, false, cond, Some, None, Option, Result, Ok, Err, MatchOption, MatchResult, sym, ◌∙◌, subst, arith}
 use Rattle.std.specs.Option.{ok_or}
 
 pub was_some : {T E : Type 0} (P : Type 0) (Q : T → Type 0) (o : Option T) (e : E) (m : Result T E) (x : T) → m ≡ Ok x → m ≡ ok_or o e → MatchOption o P Q → Q x
@@ -13,14 +13,6 @@ was_none {T} {E} P Q None e m d w s h = let f : ◌≡◌ {A = Result T E} (Err 
 pub either : {T E : Type 0} (P : Type 0) (Q F : T → Type 0) (G : E → Type 0) (o : Option T) (e : E) → ((x : T) → Q x → F x) → (P → G e) → MatchOption o P Q → MatchResult (ok_or o e) F G
 either P Q F G (Some x) e f g h = f x h
 either P Q F G None e f g h = g h
-
-pub kept_ok : {T E D : Type 0} (P : T → Type 0) (Q : E → Type 0) (S : E → D → Type 0) (r : Result T E) (m : Result T D) (x : T) → m ≡ Ok x → MatchResult r (λ y. m ≡ Ok y) (λ e. IsErrAnd m (S e)) → MatchResult r P Q → P x
-kept_ok {T} {E} {D} P Q S (Ok y) m x w s h = let e : ◌≡◌ {A = Result T D} (Ok y) (Ok x) = sym s ∙ w in let f : y ≡ x = cc in subst P f h
-kept_ok {T} {E} {D} P Q S (Err e) m x w s h = absurd (subst (λ m. IsErrAnd m (S e)) w s)
-
-pub kept_err : {T E D : Type 0} (P : T → Type 0) (Q : E → Type 0) (S : E → D → Type 0) (r : Result T E) (m : Result T D) (d : D) → m ≡ Err d → MatchResult r (λ y. m ≡ Ok y) (λ e. IsErrAnd m (S e)) → MatchResult r P Q → (e : E) × Q e × S e d
-kept_err {T} {E} {D} P Q S (Ok y) m d w s h = let e : ◌≡◌ {A = Result T D} (Ok y) (Err d) = sym s ∙ w in let z : ◌≡◌ {A = ℕ} 0 1 = cc in absurd (let no : ⊥ = omega arith in no)
-kept_err {T} {E} {D} P Q S (Err e) m d w s h = (e, h, subst (λ m. IsErrAnd m (S e)) w s)
 
 pub when_true : {A : Type 0} (b : Bool) (x y z : A) → b ≡ true → x ≡ cond b y z → x ≡ y
 when_true true x y z t e = e

@@ -9,7 +9,8 @@ use Rattle.assembly.specs.Branches.{edge}
 use Rattle.assembly.specs.declared.branches.Branch.{Branch}
 use Rattle.assembly.specs.declared.faults.AssemblyFault.TheVariants.{TooLarge}
 use Rattle.assembly.proofs.Stepped.{taken_out, replaced, halted, taken_fit, left_fit, step_fits_at, only_number}
-use Rattle.assembly.proofs.Passed.{kept_ok, kept_err, when_true}
+use Rattle.values.proofs.Passed.{kept_ok, kept_err}
+use Rattle.assembly.proofs.Passed.{when_true}
 use Rattle.assembly.proofs.forests.Forest.join_at.Goals as goal
 
 pub invariant_of-self : goal.invariant_of-self
