@@ -3,10 +3,11 @@
 
 #[cfg(test)]
 mod tests {
+    use cut::Span;
     use reader::{Listing, read};
     use refusals::Fault;
     use std::test::Fail;
-    use told::Tells;
+    use told::{Tells, Told};
     use values::Kind;
 
     const DOOR: &[u8] = b"door\nV1 1 0\nL1 1 2 100m\nC1 2 0 100n\nR1 2 0 600\n.end\n";
@@ -26,8 +27,7 @@ mod tests {
         assert_eq!(rt; elements.len(), 3);
         assert_eq!(rt; elements[0].name.place, 12);
         assert_eq!(rt; elements[1].name.place, 24);
-        assert_eq!(rt; elements[2].name.place, 36);
-        assert_eq!(rt; elements[2].name.len, 2);
+        assert_eq!(rt; elements[2].name, Span { place: 36, len: 2 });
         assert_eq!(rt; elements[0].kind, Kind::Coil);
         assert_eq!(rt; elements[0].value.get(), 100_000);
         assert_eq!(rt; elements[1].kind, Kind::Capacitor);
@@ -59,10 +59,12 @@ mod tests {
     #[test]
     fn refusals_have_layer_number_and_place(rt: HostRuntime) -> Result<(), Fail> {
         let fault = refused(b"door\nV1 a 0\nR1 b B 600\n.end\n")?;
-        let told = fault.told();
-        assert_eq!(rt; told.layer, 1);
-        assert_eq!(rt; told.number, 10);
-        assert_eq!(rt; told.place, 17);
+        let first = Told {
+            layer: 1,
+            number: 10,
+            place: 17,
+        };
+        assert_eq!(rt; fault.told(), first);
         assert_eq!(rt; refused(b"")?.told().number, 1);
         Ok(())
     }
