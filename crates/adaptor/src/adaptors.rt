@@ -52,6 +52,7 @@ impl<P: Port, Q: Port> Adaptor<P, Q> {
         }
     }
 
+    // Kept: a rule of the project: that a joint is its ports' own is compared at each use, it is no invariant.
     fn fits(&self) -> bool
         ensures { result ≡ fits self.now.joint (P.Port.reads self.now.left) (Q.Port.reads self.now.right) }
     {

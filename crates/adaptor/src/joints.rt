@@ -9,6 +9,7 @@ ghost use Rattle.adaptor.specs.Ways.{whole_num, whole_den};
 ghost use Rattle.adaptor.specs.Joints.{Made, Refuses, join_row, fits, rising_exact, rising_over, exact_left, exact_right};
 ghost use Rattle.adaptor.specs.declared.joints.JoinRefusal.TheVariants.{Number};
 
+use crate::LAYER;
 use crate::ways::Way;
 pub use joint::Joint;
 use port::{LARGEST_SIZE, Part, Port, Taken};
@@ -16,7 +17,7 @@ use told::{Tells, Told};
 use wave::{Divisor, LARGEST_NUMBER, Ratio, RatioRefusal, Shortened, Wave, shorten};
 
 /// Why two parts are not joined.
-#[derive(Clone, Copy, Debug, PartialEq)]
+#[derive(Clone, Copy, Debug, PartialEq, Eq)]
 pub enum JoinRefusal {
     /// A number of the ratio, or the total of the shares, is over `LARGEST_NUMBER`.
     Number,
@@ -35,7 +36,7 @@ impl Tells for JoinRefusal {
             JoinRefusal::Size | JoinRefusal::Ears => 16,
         };
         Told {
-            layer: 2,
+            layer: LAYER,
             number,
             place: 0,
         }
@@ -51,6 +52,7 @@ impl From<RatioRefusal> for JoinRefusal {
 }
 
 // a b
+// Kept: bounded products differ in their widths and bounds, which are what each states; one function over both would be longer.
 fn product(a: u32, b: u32) -> u64
     requires { (0 < a) × (0 < b) × (a ≤ largest_number) × (b ≤ largest_number) }
     ensures value { result ≡ a * b }
@@ -136,6 +138,7 @@ impl Round {
 }
 
 // Kept: what is done in each way is one equation a function, so a match shows both; a trait for two ways would tear them apart.
+// Kept: f, r1 and r2 are the letters of the equations, and each port gives its own; a struct of them would only rename them.
 impl Joint {
     pub fn new(way: Way, left: Part, right: Part) -> Result<Joint, JoinRefusal>
         ensures { MatchResult result (λ j. Made way left right j) (λ w. Refuses way left right w) }

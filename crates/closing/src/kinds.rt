@@ -46,6 +46,7 @@ fn doubled(r: Wave, e: Wave) -> i32
 }
 
 // g x
+// Kept: bounded products differ in their widths and bounds, which are what each states; one function over both would be longer.
 fn drawn(weight: Weight, x: i32) -> i32
     requires { unsigned_abs x ≤ 3 * largest_wave }
     ensures { result ≡ pos weight.value *ℤ x }

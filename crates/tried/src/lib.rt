@@ -5,27 +5,27 @@
 mod tests {
     use adaptor::{Adaptor, Way};
     use closing::{BoundedClosing, Closing, Diode, Short, Source, Stiff};
-    use port::{Port, Resistor, Storage, StorageKind};
+    use port::StorageKind::{Capacitor, Coil};
+    use port::{Port, Resistor, Storage};
     use std::process::Abort;
     use std::test::Fail;
-    use wave::{Ratio, WeightRefusal};
-
-    // What a round should show: the waves r and f, what was absorbed, shortened and heard, and what is then stored.
-    #[derive(Clone, Copy)]
-    struct Want(i32, i32, u64, u32, i32, u64);
+    use wave::Ratio;
+    use worked::Row;
 
     // A round of a port and a closing at the sample e.
-    fn round<P: Port, C: Closing>(rt: &impl Abort, port: &mut P, closing: &C, e: i32, want: Want) {
-        let Want(rising, falling, absorbed, shortened, heard, stored) = want;
-        let r = port.rising();
-        let f = closing.answer(r.get(), e, port.ratio());
-        let t = port.take(f.get());
-        assert_eq!(rt; r.get(), rising);
-        assert_eq!(rt; f.get(), falling);
-        assert_eq!(rt; t.absorbed, absorbed);
-        assert_eq!(rt; t.shortened, shortened);
-        assert_eq!(rt; t.heard, heard);
-        assert_eq!(rt; port.stored(), stored);
+    fn round<P: Port, C: Closing>(rt: &impl Abort, port: &mut P, closing: &C, e: i32, want: Row) {
+        let rising = port.rising().get();
+        let falling = closing.answer(rising, e, port.ratio()).get();
+        let taken = port.take(falling);
+        let row = Row {
+            rising,
+            falling,
+            absorbed: taken.absorbed,
+            shortened: taken.shortened,
+            heard: taken.heard,
+            stored: port.stored(),
+        };
+        assert_eq!(rt; row, want);
     }
 
     fn shows<P: Port>(rt: &impl Abort, port: &P, num: u32, den: u32, size: u32, ears: u32) {
@@ -35,52 +35,59 @@ mod tests {
         assert_eq!(rt; port.ears(), ears);
     }
 
-    fn capacitor(weight: u32) -> Result<Storage, WeightRefusal> {
-        Storage::new(StorageKind::Capacitor, weight)
-    }
-
-    fn coil(weight: u32) -> Result<Storage, WeightRefusal> {
-        Storage::new(StorageKind::Coil, weight)
-    }
-
     #[test]
     fn door_line(rt: HostRuntime) -> Result<(), Fail> {
-        let shunt = Adaptor::new(Way::Parallel, capacitor(320)?, Resistor::new(166, true)?)?;
-        let mut line = Adaptor::new(Way::Series, coil(31)?, shunt)?;
+        let shunt = Adaptor::new(
+            Way::Parallel,
+            Storage::new(Capacitor, 320)?,
+            Resistor::new(166, true)?,
+        )?;
+        let mut line = Adaptor::new(Way::Series, Storage::new(Coil, 31)?, shunt)?;
         let source = Source::new(166)?;
+        let first = Row {
+            rising: 0,
+            falling: 1701,
+            absorbed: 1693366,
+            shortened: 2,
+            heard: 101,
+            stored: 82525151,
+        };
         shows(&rt, &line, 15066, 517, 3, 1);
-        round(
-            &rt,
-            &mut line,
-            &source,
-            1000,
-            Want(0, 1701, 1693366, 2, 101, 82525151),
-        );
+        round(&rt, &mut line, &source, 1000, first);
         round(
             &rt,
             &mut line,
             &source,
             0,
-            Want(-1533, 1075, 13768704, 5, 288, 33693104),
+            Row {
+                rising: -1533,
+                falling: 1075,
+                absorbed: 13768704,
+                shortened: 5,
+                heard: 288,
+                stored: 33693104,
+            },
         );
         assert_eq!(rt; line.clear(), 33693104);
         assert_eq!(rt; line.stored(), 0);
-        round(
-            &rt,
-            &mut line,
-            &source,
-            1000,
-            Want(0, 1701, 1693366, 2, 101, 82525151),
-        );
+        round(&rt, &mut line, &source, 1000, first);
         Ok(())
     }
 
     #[test]
     fn joints_within_joints(rt: HostRuntime) -> Result<(), Fail> {
-        let ring = Adaptor::new(Way::Series, capacitor(5)?, coil(7)?)?;
+        let ring = Adaptor::new(
+            Way::Series,
+            Storage::new(Capacitor, 5)?,
+            Storage::new(Coil, 7)?,
+        )?;
         let left = Adaptor::new(Way::Parallel, ring, Resistor::new(11, true)?)?;
-        let branch = Adaptor::new(Way::Series, Resistor::new(13, false)?, coil(2)?)?;
-        let right = Adaptor::new(Way::Parallel, capacitor(3)?, branch)?;
+        let branch = Adaptor::new(
+            Way::Series,
+            Resistor::new(13, false)?,
+            Storage::new(Coil, 2)?,
+        )?;
+        let right = Adaptor::new(Way::Parallel, Storage::new(Capacitor, 3)?, branch)?;
         let mut net = Adaptor::new(Way::Series, left, right)?;
         let source = Source::new(9)?;
         shows(&rt, &net, 11857, 3357, 6, 1);
@@ -89,35 +96,70 @@ mod tests {
             &mut net,
             &source,
             200000,
-            Want(0, 262143, 57532954864, 6, 66531, 185181022937),
+            Row {
+                rising: 0,
+                falling: 262143,
+                absorbed: 57532954864,
+                shortened: 6,
+                heard: 66531,
+                stored: 185181022937,
+            },
         );
         round(
             &rt,
             &mut net,
             &source,
             -262143,
-            Want(64220, -262143, 78354625711, 12, -78183, 242796014983),
+            Row {
+                rising: 64220,
+                falling: -262143,
+                absorbed: 78354625711,
+                shortened: 12,
+                heard: -78183,
+                stored: 242796014983,
+            },
         );
         round(
             &rt,
             &mut net,
             &Stiff,
             250000,
-            Want(-163234, 262143, 182606183352, 12, 128833, 208786635876),
+            Row {
+                rising: -163234,
+                falling: 262143,
+                absorbed: 182606183352,
+                shortened: 12,
+                heard: 128833,
+                stored: 208786635876,
+            },
         );
         round(
             &rt,
             &mut net,
             &Diode,
             7,
-            Want(133470, -133470, 118511109888, 12, -103124, 90269376002),
+            Row {
+                rising: 133470,
+                falling: -133470,
+                absorbed: 118511109888,
+                shortened: 12,
+                heard: -103124,
+                stored: 90269376002,
+            },
         );
         round(
             &rt,
             &mut net,
             &Short,
             -5,
-            Want(-92772, 92772, 80511521657, 12, 84802, 9753926647),
+            Row {
+                rising: -92772,
+                falling: 92772,
+                absorbed: 80511521657,
+                shortened: 12,
+                heard: 84802,
+                stored: 9753926647,
+            },
         );
         assert_eq!(rt; net.clear(), 9753926647);
         assert_eq!(rt; net.rising().get(), 0);

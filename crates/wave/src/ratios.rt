@@ -4,6 +4,7 @@ ghost use Rattle.std.specs.Prelude.{◌≡◌, ◌+◌, ◌*◌, ◌^◌, ◌≤
 ghost use Rattle.wave.specs.Terms.{Reduced, Only, largest_number};
 ghost use Rattle.wave.specs.Refusals.{NoRatio, ratio_row};
 
+use crate::LAYER;
 use crate::divisors::gcd;
 use crate::shortening::Divisor;
 use crate::weights::Weight;
@@ -11,7 +12,7 @@ pub use lowest::{LARGEST_NUMBER, Ratio};
 use told::{Tells, Told};
 
 /// Why two numbers make no ratio.
-#[derive(Clone, Copy, Debug, PartialEq)]
+#[derive(Clone, Copy, Debug, PartialEq, Eq)]
 pub enum RatioRefusal {
     /// One of them is 0.
     Zero,
@@ -23,17 +24,16 @@ impl Tells for RatioRefusal {
     ghost says = { ratio_row };
 
     fn told(&self) -> Told {
-        match self {
-            RatioRefusal::Zero | RatioRefusal::Large => Told {
-                layer: 2,
-                number: 14,
-                place: 0,
-            },
+        Told {
+            layer: LAYER,
+            number: 14,
+            place: 0,
         }
     }
 }
 
 // p x
+// Kept: bounded products differ in their widths and bounds, which are what each states; one function over both would be longer.
 fn scaled(p: u32, x: i32) -> i64
     requires { p ≤ largest_number }
     ensures value { result ≡ pos p *ℤ x }

@@ -2,6 +2,7 @@ ghost use Rattle.std.specs.Prelude.{◌≡◌, ◌*◌, ◌<◌, ◌≤◌, Matc
 ghost use Rattle.wave.specs.Numbers.{sq, largest_weight};
 ghost use Rattle.wave.specs.Refusals.{NoWeight, weight_row};
 
+use crate::LAYER;
 use crate::waves::Wave;
 use told::{Tells, Told};
 
@@ -16,7 +17,7 @@ pub struct Weight {
 }
 
 /// Why a number is no weight.
-#[derive(Clone, Copy, Debug, PartialEq)]
+#[derive(Clone, Copy, Debug, PartialEq, Eq)]
 pub enum WeightRefusal {
     /// It is 0 or over `LARGEST_WEIGHT`.
     Outside,
@@ -26,12 +27,10 @@ impl Tells for WeightRefusal {
     ghost says = { weight_row };
 
     fn told(&self) -> Told {
-        match self {
-            WeightRefusal::Outside => Told {
-                layer: 2,
-                number: 12,
-                place: 0,
-            },
+        Told {
+            layer: LAYER,
+            number: 12,
+            place: 0,
         }
     }
 }

@@ -7,7 +7,7 @@ ghost use Rattle.worked.specs.Table.{Table, Told};
 
 /// A feed of the door line: the wave that rose, the wave that fell, what was absorbed, how many waves were shortened, what the ear heard, and
 /// what is then stored.
-#[derive(Clone, Copy)]
+#[derive(Clone, Copy, Debug, PartialEq, Eq)]
 pub struct Row {
     pub rising: i32,
     pub falling: i32,

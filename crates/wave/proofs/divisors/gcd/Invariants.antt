@@ -1,8 +1,9 @@
-use Rattle.wave.proofs.Divided.{Same}
+use Rattle.std.proofs.Common.{ℕ, ◌<◌}
+use Rattle.std.specs.Int.{IsGcd}
 use Rattle.wave.proofs.divisors.gcd.Given as goal
 
 abbrev pub invariant-loop-y : goal.invariant-loop-y
-invariant-loop-y l = Same l.a l.b l.x l.y
+invariant-loop-y l = (0 < l.x) × ((g : ℕ) → IsGcd l.x l.y g → IsGcd l.a l.b g)
 
 abbrev pub decreases-loop-y : goal.decreases-loop-y
 decreases-loop-y l = l.y
