@@ -24,9 +24,8 @@ impl CutLine<'_> {
     fn missing_fault(&self) -> Option<Fault>
         ensures { Least (MissingFault (stop_of self.now.span) self.now.kind (length self.now.fields.now)) result }
     {
-        (self.fields.len() < self.kind.width()).then_some(Rule::Shape.at(
-            self.span.place + self.span.len,
-        ))
+        let end = self.span.place + self.span.len;
+        (self.fields.len() < self.kind.width()).then_some(Rule::Shape.at(end))
     }
 
     fn forms_fault(&self) -> Option<Fault>
@@ -49,9 +48,8 @@ impl CutLine<'_> {
         let [_, _, _, field, ..] = self.fields else {
             return Ok(None);
         };
-        let value = value_of(part, field.of(self.text)).map_err(|wrong| Rule::from(wrong).at(
-            field.place,
-        ))?;
+        let word = field.of(self.text);
+        let value = value_of(part, word).map_err(|wrong| Rule::from(wrong).at(field.place))?;
         Ok(Some(value))
     }
 
