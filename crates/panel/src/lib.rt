@@ -3,8 +3,7 @@
 
 ghost use Rattle.std.specs.Prelude.{◌≡◌, ℕ, ℤ, None, codes, IfOk, MatchResult};
 ghost use Rattle.closing.specs.Meaning.{Bounded};
-ghost use Rattle.rig.specs.Pages.{Fresh};
-ghost use Rattle.rig.specs.Energy.{Promises};
+ghost use Rattle.rig.specs.Energy.{Made, Promises};
 ghost use Rattle.stream.specs.Pieces.{WhateverTheCuts};
 ghost use Rattle.assembly.specs.Assemblies.{Accepts, Refuses};
 ghost use Rattle.panel.specs.Panels.{source_weight, panel_rate, panel_unit};
@@ -19,7 +18,7 @@ use tree::ListingTree;
 /// A stream through the tree of a listing. Over a bounded closing its tail dies: in silence the rounds in which anything is heard number at most the
 /// energy stored when the silence began.
 pub fn listen<C: Closing>(tree: ListingTree, closing: C) -> Stream<ListingTree, C>
-    ensures made { (result.session.rig.port ≡ tree) × (result.session.rig.closing ≡ closing) × (result.session.rig.number ≡ 0) × Fresh (tree_port.reads tree).stored result.session.rig.tally × (result.low ≡ None) }
+    ensures made { Made tree_port tree closing 0 result.session.rig × (result.low ≡ None) }
     ensures promises { Promises tree_port C.Closing result.session.rig }
     ensures tails { (offers : C → ℤ → ℕ) → Bounded C.Closing.answers offers → TailDies C.Closing result.session.rig }
     ensures cuts { WhateverTheCuts {P = ListingTree} {C = C} tree_port C.Closing }

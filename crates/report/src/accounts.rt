@@ -12,7 +12,7 @@ use wave::Ratio;
 
 /// A list of calls in the balance: its sums, what is stored at its end, and the two sides of the energy statement. For a port of ratio n/d, `left` is
 /// d × (stored + absorbed + dropped), and `right` is d × the energy stored at the start + n × swing.
-#[derive(Clone, Copy)]
+#[derive(Clone, Copy, Debug, PartialEq, Eq)]
 pub struct Weighing {
     pub entries: u32,
     pub stored: u64,
@@ -24,6 +24,7 @@ pub struct Weighing {
     pub right: i128,
 }
 
+// Kept: two products, since the two sides have numbers of different widths and signs: one type for both would need a trait of numbers with laws.
 // d x
 fn scaled(d: u32, x: u128) -> u128
     requires { (d ≤ largest_number) × (x < 2 ^ 97) }

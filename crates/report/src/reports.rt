@@ -21,7 +21,7 @@ pub const LONGEST_SILENCE: u32 = 1000000;
 pub const QUIET: u32 = 256;
 
 /// The samples are more than `LONGEST_RECORDING` bytes.
-#[derive(Clone, Copy, Debug, PartialEq)]
+#[derive(Clone, Copy, Debug, PartialEq, Eq)]
 pub struct TooLong;
 
 impl fmt::Display for TooLong {
@@ -35,7 +35,7 @@ impl fmt::Display for TooLong {
 impl Error for TooLong {}
 
 /// A stretch of feeds of 0: how many rounds, how many of them shortened or absorbed something, and how many passed since the last that did.
-#[derive(Clone, Copy, Default)]
+#[derive(Clone, Copy, Debug, Default, PartialEq, Eq)]
 pub struct Silence {
     pub rounds: u32,
     pub busy: u32,
@@ -44,7 +44,7 @@ pub struct Silence {
 
 /// What became of a recording: the port's ratio and the energy at the start, the balance after the last sample, the silence after it, and the balance
 /// after what was then left had been dropped.
-#[derive(Clone, Copy)]
+#[derive(Clone, Copy, Debug, PartialEq, Eq)]
 pub struct Report {
     pub ratio: Ratio,
     pub start: u64,
@@ -61,9 +61,7 @@ fn speak<P: Port, C: Closing>(session: &mut Session<P, C>, samples: &[u8]) -> Ac
     let mut account = Account::empty();
     let (pairs, _) = samples.as_chunks();
     for pair in pairs {
-        let Ok(entry) = session.feed(wave_of(*pair)) else {
-            unreachable()
-        };
+        let entry = session.feed(wave_of(*pair)).unwrap();
         account = account.counted(entry.round);
     }
     account
@@ -92,9 +90,7 @@ fn rest<P: Port, C: Closing>(session: &mut Session<P, C>, account: Account) -> (
     let mut account = account;
     let mut silence = Silence::default();
     for _ in 0..LONGEST_SILENCE {
-        let Ok(entry) = session.feed(0) else {
-            unreachable()
-        };
+        let entry = session.feed(0).unwrap();
         account = account.counted(entry.round);
         silence = silence.after(entry.round);
         if silence.idle >= QUIET {

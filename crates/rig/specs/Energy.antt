@@ -1,9 +1,9 @@
 -- What a rig promises of every list of calls. A moment is right after the making or after any call: the rig z that a run leads to.
-use Rattle.std.specs.Prelude.{◌≡◌, ℕ, ◌+◌, ◌*◌, ◌≤◌, List, [], ◌∷◌, ℤ, pos, ◌+ℤ◌, ◌*ℤ◌, ◌≤ℤ◌}
+use Rattle.std.specs.Prelude.{◌≡◌, ℕ, ◌+◌, ◌*◌, ◌≤◌, false, List, [], ◌∷◌, ℤ, pos, ◌+ℤ◌, ◌*ℤ◌, ◌≤ℤ◌}
 use Rattle.port.specs.declared.meaning.Port.{Ghosts as PortOf}
 use Rattle.closing.specs.Meaning.{Bounded}
 use Rattle.closing.specs.declared.meaning.Closing.{Ghosts as ClosingOf}
-use Rattle.rig.specs.Pages.{page_of}
+use Rattle.rig.specs.Pages.{Fresh, page_of}
 use Rattle.rig.specs.Runs.{Event, Run, All, Feeds, Turns, of_feed, sum, entries, absorbed, dropped, shortened, swing, busy}
 use Rattle.rig.specs.declared.pages.Page.{Page}
 use Rattle.rig.specs.declared.parts.Rig.{Rig}
@@ -34,6 +34,15 @@ abbrev pub Begins : List Event → Type 0
 Begins [] = Unit {0}
 Begins (x ∷ []) = Turns x
 Begins (x ∷ (y ∷ ys)) = Begins (y ∷ ys)
+
+module _ {P C : Type 0} (ports : PortOf P) where
+  -- a is a rig of the port p, the closing k and the number n, with no wave open and an empty page
+  pub record Made (p : P) (k : C) (n : ℕ) (a : Rig P C) : Type 0 where
+    pub port : a.port ≡ p
+    pub closing : a.closing ≡ k
+    pub number : a.number ≡ n
+    pub raised : a.raised ≡ false
+    pub tally : Fresh (ports.reads p).stored a.tally
 
 module _ {P C : Type 0} (ports : PortOf P) (closings : ClosingOf C) where
   -- rounding never makes energy: at each moment the energy stored, absorbed and dropped balances with what the waves brought

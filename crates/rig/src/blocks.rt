@@ -44,6 +44,7 @@ impl<P: Port, C: Closing> Rig<P, C> {
         let (samples, _) = input.as_chunks();
         for (i, sample) in samples.iter().enumerate() {
             let heard = self.pass(*sample);
+            // Kept: the index, since the library does not say what a slice holds after the chunks of `as_chunks_mut` were written.
             output[2 * i..2 * i + 2].copy_from_slice(&heard);
         }
         Ok(())

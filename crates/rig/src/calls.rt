@@ -1,8 +1,8 @@
-ghost use Rattle.std.specs.Prelude.{◌≡◌, ◌<◌, true, false, MatchBool, MatchResult};
+ghost use Rattle.std.specs.Prelude.{◌≡◌, ◌<◌, true, false, MatchResult};
 ghost use Rattle.rig.specs.Limits.{page_length};
-ghost use Rattle.rig.specs.Pages.{page_of, Fresh};
-ghost use Rattle.rig.specs.Steps.{Ready, Unready, Fits, Rounded, Fed, Raised, Answered, Withdrawn, Cleared, Turned};
-ghost use Rattle.rig.specs.Energy.{Promises};
+ghost use Rattle.rig.specs.Pages.{page_of};
+ghost use Rattle.rig.specs.Steps.{Ready, Unready, Fits, Unwithdrawn, Rounded, Fed, Raised, Answered, Withdrawn, Cleared, Turned};
+ghost use Rattle.rig.specs.Energy.{Made, Promises};
 
 use crate::handed::HandedBack;
 use crate::pages::{PAGE_LENGTH, Page, Round};
@@ -19,21 +19,13 @@ impl OpenWave {
     {
         self.rising
     }
-
-    // Takes the wave apart: from here on it is no longer open.
-    fn spent(self) -> Wave
-        ensures { result ≡ self.rising }
-    {
-        let OpenWave { number: _, rising } = self;
-        rising
-    }
 }
 
 impl<P: Port, C: Closing> Rig<P, C> {
     /// A rig with no wave open and an empty page. What it promises of every list of calls from here on: rounding never makes energy; and over a
     /// bounded closing the energy stays within what was offered, and in silence the filter runs down.
     pub fn new(port: P, closing: C, number: u32) -> Rig<P, C>
-        ensures made { (result.port ≡ port) × (result.closing ≡ closing) × (result.number ≡ number) × (result.raised ≡ false) × Fresh (P.Port.reads port).stored result.tally }
+        ensures made { Made P.Port port closing number result }
         ensures promises { Promises P.Port C.Closing result }
     {
         let tally = Tally::fresh(port.stored());
@@ -124,11 +116,18 @@ impl<P: Port, C: Closing> Rig<P, C> {
         })
     }
 
-    // The wave is the one that is open.
-    fn fits(&self, wave: &OpenWave) -> bool
-        ensures { MatchBool result (Fits P.Port self.now wave.now) (Fits P.Port self.now wave.now → ⊥) }
+    // The rising wave, if `wave` is the one that is open; from here on it is no longer. Else it is handed back.
+    fn spend(&self, wave: OpenWave) -> Result<Wave, HandedBack>
+        ensures { MatchResult result (λ rising. Fits P.Port self.now wave × (rising ≡ wave.rising)) (λ back. (back.wave ≡ wave) × Unwithdrawn P.Port self.now wave back.refusal) }
     {
-        self.raised && wave.number == self.number && wave.rising == self.port.rising()
+        if self.raised && wave.number == self.number && wave.rising == self.port.rising() {
+            let OpenWave { number: _, rising } = wave;
+            return Ok(rising);
+        }
+        Err(HandedBack {
+            wave,
+            refusal: Refusal::Misfit,
+        })
     }
 
     /// A round with the caller's own falling wave f. A refused open wave is handed back.
@@ -141,13 +140,7 @@ impl<P: Port, C: Closing> Rig<P, C> {
                 refusal: Refusal::Beyond,
             });
         }
-        if !self.fits(&wave) {
-            return Err(HandedBack {
-                wave,
-                refusal: Refusal::Misfit,
-            });
-        }
-        let rising = wave.spent();
+        let rising = self.spend(wave)?;
         Ok(self.round(rising, Wave::hold(f)))
     }
 
@@ -155,13 +148,7 @@ impl<P: Port, C: Closing> Rig<P, C> {
     pub fn withdraw(&mut self, wave: OpenWave) -> Result<(), HandedBack>
         ensures { Withdrawn P.Port self.old wave result self.new }
     {
-        if !self.fits(&wave) {
-            return Err(HandedBack {
-                wave,
-                refusal: Refusal::Misfit,
-            });
-        }
-        let _ = wave.spent();
+        self.spend(wave)?;
         self.raised = false;
         Ok(())
     }

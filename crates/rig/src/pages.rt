@@ -4,7 +4,7 @@ use wave::waves::Wave;
 pub const PAGE_LENGTH: u32 = 4096;
 
 /// What a round was: the wave that rose from the port, the wave that fell into it, and what the port answered.
-#[derive(Clone, Copy)]
+#[derive(Clone, Copy, Debug, PartialEq, Eq)]
 pub struct Round {
     pub rising: Wave,
     pub falling: Wave,
@@ -14,7 +14,7 @@ pub struct Round {
 }
 
 /// A page: the count and the sums of the accepted feeds, answers and clears since the last turn, beside the energy stored at its start and at its end.
-#[derive(Clone, Copy)]
+#[derive(Clone, Copy, Debug, PartialEq, Eq)]
 pub struct Page {
     pub entries: u32,
     pub start: u64,

@@ -34,6 +34,7 @@ pub struct Rig<P, C> {
     pub(crate) port: P,
     pub(crate) closing: C,
     pub(crate) number: u32,
+    // Kept: a flag, for the wave that is open is out with the caller: no value is left here for an `Option` to hold.
     pub(crate) raised: bool,
     pub(crate) tally: Tally,
     ghost room: { raised ≡ true → tally.entries < page_length },

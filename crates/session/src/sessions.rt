@@ -1,8 +1,7 @@
 mod turning;
 
 ghost use Rattle.std.specs.Prelude.{◌≡◌, ℕ, false, ℤ};
-ghost use Rattle.rig.specs.Pages.{Fresh};
-ghost use Rattle.rig.specs.Energy.{Promises};
+ghost use Rattle.rig.specs.Energy.{Made, Promises};
 ghost use Rattle.session.specs.Sessions.{Turned, Sounded, Dropped, Finished};
 
 use closing::Closing;
@@ -24,7 +23,7 @@ fn turn_full<P: Port, C: Closing>(rig: &mut Rig<P, C>) -> Option<Page>
 impl<P: Port, C: Closing> Session<P, C> {
     /// A session with a new rig. What the rig promises of every list of calls, the session's calls keep, since each is such a list.
     pub fn new(port: P, closing: C, number: u32) -> Session<P, C>
-        ensures made { (result.rig.port ≡ port) × (result.rig.closing ≡ closing) × (result.rig.number ≡ number) × Fresh (P.Port.reads port).stored result.rig.tally }
+        ensures made { Made P.Port port closing number result.rig }
         ensures promises { Promises P.Port C.Closing result.rig }
     {
         Session {

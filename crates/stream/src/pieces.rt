@@ -19,6 +19,7 @@ impl<P: Port, C: Closing> Stream<P, C> {
         for byte in piece {
             if let Some(heard) = self.push(*byte) {
                 out[at..at + 2].copy_from_slice(&heard.bytes);
+                // Kept: written by hand into the lent buffer, since feeding uses no heap to gather what is heard in.
                 at += 2;
             }
         }

@@ -1,8 +1,7 @@
 mod state;
 
 ghost use Rattle.std.specs.Prelude.{◌≡◌, ℕ, [], ◌∷◌, ℤ, None};
-ghost use Rattle.rig.specs.Pages.{Fresh};
-ghost use Rattle.rig.specs.Energy.{Promises};
+ghost use Rattle.rig.specs.Energy.{Made, Promises};
 ghost use Rattle.session.specs.Sessions.{Finished};
 ghost use Rattle.stream.specs.Pieces.{Pieced, Halves, heard_of, pages_of, WhateverTheCuts};
 
@@ -16,7 +15,7 @@ pub use state::{Heard, Stream};
 impl<P: Port, C: Closing> Stream<P, C> {
     /// A stream through a new rig, with what the rig promises of every list of calls; and pieces a, then b, give what a and b together give.
     pub fn new(port: P, closing: C, number: u32) -> Stream<P, C>
-        ensures made { (result.session.rig.port ≡ port) × (result.session.rig.closing ≡ closing) × (result.session.rig.number ≡ number) × Fresh (P.Port.reads port).stored result.session.rig.tally × (result.low ≡ None) }
+        ensures made { Made P.Port port closing number result.session.rig × (result.low ≡ None) }
         ensures promises { Promises P.Port C.Closing result.session.rig }
         ensures cuts { WhateverTheCuts {P = P} {C = C} P.Port C.Closing }
     {
@@ -42,13 +41,11 @@ impl<P: Port, C: Closing> Stream<P, C> {
             self.low = Some(byte);
             return None;
         };
-        match self.session.feed(wave_of([low, byte])) {
-            Ok(entry) => Some(Heard {
-                bytes: bytes_of(entry.round.heard),
-                page: entry.page,
-            }),
-            Err(_) => unreachable(),
-        }
+        let entry = self.session.feed(wave_of([low, byte])).unwrap();
+        Some(Heard {
+            bytes: bytes_of(entry.round.heard),
+            page: entry.page,
+        })
     }
 
     /// Turns the last page, if it has entries. A lone last byte is no sample.

@@ -12,7 +12,7 @@ pub struct Session<P, C> {
 }
 
 /// A round, and the page that it filled, if it did.
-#[derive(Clone, Copy)]
+#[derive(Clone, Copy, Debug, PartialEq, Eq)]
 pub struct Entry {
     pub round: Round,
     pub page: Option<Page>,

@@ -9,7 +9,7 @@ pub struct Stream<P, C> {
 }
 
 /// What was heard of a sample, the low byte first, and the page that it filled, if it did.
-#[derive(Clone, Copy)]
+#[derive(Clone, Copy, Debug, PartialEq, Eq)]
 pub struct Heard {
     pub bytes: [u8; 2],
     pub page: Option<Page>,
