@@ -14,6 +14,7 @@ fn turn_full<P: Port, C: Closing>(rig: &mut Rig<P, C>) -> Option<Page>
     requires { rig.old.raised ≡ false }
     ensures { Turned P.Port rig.old result rig.new }
 {
+    // Kept: tried with `then`, here and in `finish`: the proof of the turn inside the closure, which borrows the rig, did not close.
     if rig.entries() < PAGE_LENGTH {
         return None;
     }

@@ -32,9 +32,9 @@ returns g c =
         omega arith,
         record {
           made = c.new-session.result.rig;
-          port = made.0;
-          closing = made.1;
-          fresh = made.3;
+          port = made.port;
+          closing = made.closing;
+          fresh = made.tally;
           speech = E.calls;
           spoken = spoken;
           speaks = E.speech;
@@ -53,7 +53,7 @@ returns g c =
           last = last;
         },
       );
-      spoken = fair_of ports closings _ spoken p _ _ _ _ _ _ made.0 num den start refl energy E.speech.run first;
-      ended = fair_of ports closings _ ended p _ _ _ _ _ _ made.0 num den start refl energy whole last;
+      spoken = fair_of ports closings _ spoken p _ _ _ _ _ _ made.port num den start refl energy E.speech.run first;
+      ended = fair_of ports closings _ ended p _ _ _ _ _ _ made.port num den start refl energy whole last;
       silence = omega (arith, quiet, R.hush.busy, first.stored);
     }

@@ -1,4 +1,7 @@
-use Rattle.std.proofs.Common.{inl, inr, arith}
+use Rattle.std.proofs.Common.{pos, Result, inl, inr, subst, arith}
+use Rattle.rig.specs.declared.refusals.Refusal.{Refusal}
+use Rattle.session.specs.Sessions.{Sounded}
+use Rattle.session.specs.declared.sessions.turning.Entry.{Entry}
 use Rattle.report.proofs.Speaking.{hushed_start, hushed_more, hushed_end}
 use Rattle.report.proofs.reports.rest.Goals as goal
 
@@ -19,8 +22,9 @@ after-silence-requires g c =
 
 pub loop-preserved : goal.loop-preserved
 loop-preserved g c =
-    let I = c.loop.invariant in (
-      hushed_more _ _ _ _ _ _ _ _ _ _ _ _ I.2 (omega (arith, I.1)) I.0 c.in-Ok.ensures.0 c.counted-account.ensures c.after-silence.ensures,
+    let I = c.loop.invariant in
+    let fed = subst (λ (r : Result Entry Refusal). Sounded g.P.Port g.C.Closing c.loop.session.rig (pos 0) r c.feed.new.self.rig) c.unwrap-entry.ensures c.feed.ensures in (
+      hushed_more _ _ _ _ _ _ _ _ _ _ _ _ I.2 (omega (arith, I.1)) I.0 fed.0 c.counted-account.ensures c.after-silence.ensures,
       omega (arith, c.after-silence.ensures.rounds, I.1),
       omega arith,
     )
@@ -31,4 +35,5 @@ returns-after-loop g c = hushed_end _ _ _ _ _ _ _ (inl (omega (arith, c.loop.inv
 pub returns-then-silence-ge-QUIET : goal.returns-then-silence-ge-QUIET
 returns-then-silence-ge-QUIET g c =
     let I = c.loop.invariant in
-    hushed_end _ _ _ _ _ _ _ (inr (omega arith)) (hushed_more _ _ _ _ _ _ _ _ _ _ _ _ I.2 (omega (arith, I.1)) I.0 c.in-Ok.ensures.0 c.counted-account.ensures c.after-silence.ensures)
+    let fed = subst (λ (r : Result Entry Refusal). Sounded g.P.Port g.C.Closing c.loop.session.rig (pos 0) r c.feed.new.self.rig) c.unwrap-entry.ensures c.feed.ensures in
+    hushed_end _ _ _ _ _ _ _ (inr (omega arith)) (hushed_more _ _ _ _ _ _ _ _ _ _ _ _ I.2 (omega (arith, I.1)) I.0 fed.0 c.counted-account.ensures c.after-silence.ensures)
