@@ -65,7 +65,7 @@ mod tests {
     use adaptor::{Adaptor, Way};
     use closing::{Diode, Short, Source, Stiff};
     use port::{Storage, StorageKind};
-    use rig::PAGE_LENGTH;
+    use rig::{PAGE_LENGTH, Page};
     use std::test::Fail;
     use wave::WeightRefusal;
 
@@ -94,19 +94,16 @@ mod tests {
         assert_eq!(rt; answered, -7);
         assert_eq!(rt; rig.port().stored(), 245);
         assert_eq!(rt; rig.clear().ok(), Some(245));
-        let page = rig.turn()?;
-        assert_eq!(rt;
-            [
-                page.start,
-                page.end,
-                page.absorbed,
-                page.dropped,
-                page.shortened,
-            ],
-            [0, 0, 0, 245, 0]
-        );
-        assert_eq!(rt; page.entries, 3);
-        assert_eq!(rt; page.swing, 49);
+        let page = Page {
+            entries: 3,
+            start: 0,
+            end: 0,
+            absorbed: 0,
+            dropped: 245,
+            shortened: 0,
+            swing: 49,
+        };
+        assert_eq!(rt; rig.turn()?, page);
         assert_eq!(rt; rig.page().entries, 0);
         Ok(())
     }
@@ -180,18 +177,16 @@ mod tests {
         assert_eq!(rt; number(rig.block(&[0xfa, 0, 0, 0], &mut out)), 0);
         assert_eq!(rt; out, [0x19, 0, 0x48, 0, 7, 7]);
         assert_eq!(rt; rig.port().stored(), 33693104);
-        let page = rig.page();
-        assert_eq!(rt;
-            [
-                page.start,
-                page.end,
-                page.absorbed,
-                page.dropped,
-                page.shortened,
-            ],
-            [0, 33693104, 15462070, 0, 7]
-        );
-        assert_eq!(rt; page.swing, 1698937);
+        let page = Page {
+            entries: 2,
+            start: 0,
+            end: 33693104,
+            absorbed: 15462070,
+            dropped: 0,
+            shortened: 7,
+            swing: 1698937,
+        };
+        assert_eq!(rt; rig.page(), page);
         Ok(())
     }
 
