@@ -1,5 +1,6 @@
 -- From what the parts of assembling answer to what it answers.
-use Rattle.std.proofs.Common.{◌≡◌, ℕ, ◌<◌, ◌==◌, Bool, true, false, List, length, get_or, is_some, Some, None, Option, sym, ap, ◌∙◌, subst, inl, inr, zero-le, arith}
+use Rattle.std.proofs.Common.{◌≡◌, ℕ, ◌<◌, ◌==◌, Bool, true, false, List, length, get_or, is_some, Some, None, Option, Result, Ok, MatchOption, sym, ap, ◌∙◌, subst, inl, inr, zero-le, arith}
+use Rattle.std.specs.Option.{ok_or}
 use Rattle.std.proofs.lemmas.Bool.Decides.{leb_tells, nat_tests}
 use Rattle.reader.specs.Answers as reader
 use Rattle.reader.specs.declared.Element.{Element}
@@ -18,6 +19,7 @@ use Rattle.assembly.specs.declared.faults.AssemblyFault.{AssemblyFault}
 use Rattle.assembly.specs.declared.faults.AssemblyFault.TheVariants.{Reading, OutOfRange, BadWeight, Irreducible, TooLarge, NoEar}
 use Rattle.assembly.proofs.OneTree.{one_tree, not_both}
 use Rattle.assembly.proofs.Begun.{blank}
+use Rattle.assembly.proofs.Passed.{was_some}
 
 pub one_end : OneEnd
 one_end port bs = one_answer Joins Refused port (λ c a b m n. one_tree (way_for c) a b m n) (λ c a b m. not_both (way_for c) a b m) bs
@@ -30,6 +32,13 @@ pub record Ready (t name : List ℕ) (rate unit : ℕ) (d : Listing) (ear : Opti
   pub all : es ≡ d.elements
   pub ends : port ≡ port_of d
   pub eared : EarIs t es name ear
+
+-- the scale is what was made of the rate and the unit
+pub ready : {t name : List ℕ} {rate unit : ℕ} {d : Listing} {ear : Option ℕ} {es : List Element} {port : Wire} {E : Type 0} (o : Option Scale) (e : E) (m : Result Scale E) (s : Scale) → m ≡ Ok s → m ≡ ok_or o e
+    → MatchOption o (Scaled rate unit → ⊥) (λ x. (x.rate ≡ rate) × (x.unit ≡ unit)) → reader.Reads t d → es ≡ d.elements → port ≡ port_of d → EarIs t es name ear → Ready t name rate unit d ear s es port
+ready o e m s w is made read all ends eared =
+    let z = was_some _ _ o e m s w is made in
+    record { read = read; hertz = z.0; siemens = z.1; all = all; ends = ends; eared = eared }
 
 moved : {t name : List ℕ} {rate unit : ℕ} {d : Listing} {ear : Option ℕ} {s : Scale} {es : List Element} {port : Wire} (P : ℕ → ℕ → List Element → Wire → Type 0) → Ready t name rate unit d ear s es port → P s.rate s.unit es port → P rate unit d.elements (port_of d)
 moved {t} {name} {rate} {unit} {d} {ear} {s} {es} {port} P k x =

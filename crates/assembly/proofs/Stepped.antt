@@ -2,6 +2,7 @@
 use Rattle.std.proofs.Common.{◌≡◌, ℕ, ◌+◌, ◌<◌, ◌≤◌, List, [], ◌∷◌, map, length, get_or, set, sym, refl, ap, ◌∙◌, subst, arith}
 use Rattle.std.specs.List.{remove, insert}
 use Rattle.std.proofs.lemmas.List.{length-map, map-set, get_or-map}
+use Rattle.std.proofs.lemmas.List.Sums.{sum_by-remove}
 use Rattle.std.proofs.lemmas.List.Edits.{get_or-remove_below, length-remove}
 use Rattle.port.specs.Meaning.{largest_size}
 use Rattle.adaptor.specs.Joins.{Parted}
@@ -21,7 +22,7 @@ use Rattle.net.specs.declared.wires.Choice.TheVariants.{Twins, Chain}
 use Rattle.assembly.specs.Branches.{edge, edges, way_for, Joins, Refused}
 use Rattle.assembly.specs.Inner.{sizes, ears, Fit, ends_after_join, Replaced, Halted}
 use Rattle.assembly.specs.declared.branches.Branch.{Branch}
-use Rattle.assembly.proofs.Sums.{put_back, map_removed, sum_removed, sum_step, sum_two}
+use Rattle.assembly.proofs.Sums.{put_back, map_removed, sum_step, sum_two}
 use Rattle.assembly.proofs.OneTree.{shown}
 
 -- ---- why two trees are not joined
@@ -178,8 +179,8 @@ taken_fit {xs} {ys} {zs} {i} {j} {a} {b} o fit =
 -- what is left of the branches fits
 fewer_fit : (es : List (Edge Model)) (k : ℕ) (d : Edge Model) → k < length es → Fit es → Fit (remove es k)
 fewer_fit es k d h fit =
-    let s = sum_removed (λ e. (reads e.what).size) es k d h in
-    let t = sum_removed (λ e. (reads e.what).ears) es k d h in
+    let s = sum_by-remove (λ e. (reads e.what).size) es k d h in
+    let t = sum_by-remove (λ e. (reads e.what).ears) es k d h in
     (omega (arith, s, fit.0), omega (arith, t, fit.1))
 
 pub left_fit : {xs ys zs : List Branch} {i j : ℕ} {a b : Branch} → TakenOut xs ys zs i j a b → Fit (edges xs) → Fit (edges zs)

@@ -1,9 +1,9 @@
 -- A step keeps the sums over all branches.
-use Rattle.std.proofs.Common.{◌≡◌, ℕ, zero, suc, ◌+◌, ◌<◌, ◌≤◌, List, [], ◌∷◌, map, length, get_or, take, drop, set, sum_by, refl, ap, add-one, arith}
+use Rattle.std.proofs.Common.{◌≡◌, ℕ, zero, suc, ◌+◌, ◌<◌, ◌≤◌, List, [], ◌∷◌, map, length, get_or, set, sum_by, refl, ap, arith}
 use Rattle.std.specs.List.{remove, insert}
 use Rattle.std.proofs.lemmas.List.{get_or-set_other, length-set}
 use Rattle.std.proofs.lemmas.List.Edits.{get_or-remove_below, length-remove}
-use Rattle.std.proofs.lemmas.List.Sums.{sum_by-append, sum_by-take-drop, sum_by-drop_more, sum_by-set, get_or-le-sum_by}
+use Rattle.std.proofs.lemmas.List.Sums.{sum_by-remove, sum_by-set, get_or-le-sum_by}
 
 -- to take out the later and the former and put c in the former's place is to set c there and take out the later
 pub put_back : {X : Type 0} (xs : List X) (i j : ℕ) (c : X) → i < j → j < length xs → insert (remove (remove xs j) i) i c ≡ remove (set xs i c) j
@@ -18,14 +18,6 @@ map_removed f [] (suc i) = refl
 map_removed f (x ∷ xs) zero = refl
 map_removed f (x ∷ xs) (suc i) = ap (λ ys. f x ∷ ys) (map_removed f xs i)
 
-pub sum_removed : {X : Type 0} (f : X → ℕ) (xs : List X) (j : ℕ) (d : X) → j < length xs → sum_by f (remove xs j) + f (get_or xs j d) ≡ sum_by f xs
-sum_removed f xs j d h =
-    let a = sum_by-append f (take j xs) (drop (suc j) xs) in
-    let b = sum_by-take-drop f xs j in
-    let c = sum_by-drop_more f xs j d h in
-    let e : sum_by f (drop (j + 1) xs) ≡ sum_by f (drop (suc j) xs) = ap (λ k. sum_by f (drop k xs)) (add-one j) in
-    omega (arith, a, b, c, e)
-
 apart : (i j : ℕ) → i < j → j ≡ i → ⊥
 apart i j h e = omega arith
 
@@ -34,14 +26,14 @@ pub sum_step : {X : Type 0} (f : X → ℕ) (xs : List X) (i j : ℕ) (c d : X) 
 sum_step f xs i j c d lo hi e =
     let a = sum_by-set f xs i c d (omega arith) in
     let n = length-set xs i c in
-    let b = sum_removed f (set xs i c) j d (omega arith) in
+    let b = sum_by-remove f (set xs i c) j d (omega arith) in
     let g : f (get_or (set xs i c) j d) ≡ f (get_or xs j d) = ap f (get_or-set_other xs i j c d (apart i j lo)) in
     omega (arith, a, b, g, e)
 
 -- two of them are no more than all
 pub sum_two : {X : Type 0} (f : X → ℕ) (xs : List X) (i j : ℕ) (d : X) → i < j → j < length xs → f (get_or xs i d) + f (get_or xs j d) ≤ sum_by f xs
 sum_two f xs i j d lo hi =
-    let a = sum_removed f xs j d hi in
+    let a = sum_by-remove f xs j d hi in
     let n = length-remove xs j hi in
     let b = get_or-le-sum_by f (remove xs j) i d (omega arith) in
     let g : f (get_or (remove xs j) i d) ≡ f (get_or xs i d) = ap f (get_or-remove_below xs j d i lo hi) in

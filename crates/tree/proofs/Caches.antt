@@ -1,5 +1,5 @@
 -- The waves that a tree's joints keep at hand.
-use Rattle.std.proofs.Common.{◌≡◌, ℕ, min, true, ℤ, pos, ◌+ℤ◌, Box, refl, ap, ◌∙◌, subst, ap₂}
+use Rattle.std.proofs.Common.{◌≡◌, ℕ, ◌+◌, Fits, w64, min, true, ℤ, pos, ◌+ℤ◌, Box, refl, ap, ◌∙◌, subst, ap₂, arith}
 use Rattle.std.specs.declared.alloc.Global.{Global}
 use native.Mathlib.Nat.{zero-div}
 use lib.IntN.{*ℤ-zero}
@@ -20,7 +20,7 @@ use Rattle.port.specs.Elements.{raised}
 use Rattle.port.specs.declared.elements.StorageKind.{StorageKind}
 use Rattle.port.specs.declared.elements.StorageKind.TheVariants.{Capacitor, Coil}
 use Rattle.tree.specs.Elements.{body_reads, body_cleared}
-use Rattle.tree.specs.Law.{fits_taken}
+use Rattle.tree.specs.Law.{fits_left, fits_right, fits_taken, stored_most}
 
 -- what is known of a tree whose node is a join
 pub held : {n : Node} {k : Knot} {a b : Box Tree Global} → Holds n → n ≡ Join k a b → HoldsAt k a.value b.value
@@ -30,6 +30,10 @@ held h is = subst Holds is h
 pub still_taken : (k : Knot) (a b m n : Model) (f : ℤ) → HoldsAt k a b →
     m ≡ taken a (to_left k.joint (reads a) (reads b) f) → n ≡ taken b (to_right k.joint (reads a) (reads b) f) → fitted (join k.joint m n) ≡ true
 still_taken k a b m n f h x y = ap₂ (λ s t. fitted (join k.joint s t)) x y ∙ fits_taken (join k.joint a b) f ∙ h.fits
+
+-- ---- what two parts store is no more than a number holds
+pub stored_sum : (k : Knot) (a b : Model) (x y : ℕ) → HoldsAt k a b → x ≡ (reads a).stored → y ≡ (reads b).stored → Fits w64 (x + y)
+stored_sum k a b x y h p q = omega (arith, p, q, stored_most a (fits_left k.joint a b h.fits), stored_most b (fits_right k.joint a b h.fits))
 
 -- ---- from what is cleared nothing rises
 rises_zero : (w : Way) (p s : ℕ) → rises w p (pos 0) s (pos 0) ≡ pos 0

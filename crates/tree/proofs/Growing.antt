@@ -1,5 +1,5 @@
 -- A joint made for two parts that show what two trees read fits those trees.
-use Rattle.std.proofs.Common.{◌≡◌, true, sym, refl, subst, subst₂}
+use Rattle.std.proofs.Common.{◌≡◌, true, sym, subst, subst₂}
 use Rattle.port.specs.Meaning.{Readings}
 use Rattle.port.specs.Parts.{shows}
 use Rattle.port.specs.declared.parts.fixed.Part.{Part}
@@ -7,7 +7,6 @@ use Rattle.adaptor.specs.Joints.{Made}
 use Rattle.adaptor.specs.Joins.{Joined}
 use Rattle.adaptor.specs.declared.ways.Way.{Way}
 use Rattle.adaptor.specs.declared.joints.joint.Joint.{Joint}
-use Rattle.tree.specs.Models.{Model, join, reads, fitted}
 
 pub joined_of : (w : Way) (a b : Readings) (x y : Part) (j : Joint) → shows x a ≡ true → shows y b ≡ true → Made w x y j → Joined w a b j
 joined_of w a b x y j hx hy M =
@@ -17,6 +16,3 @@ joined_of w a b x y j hx hy M =
       right = subst (λ p. shows p b ≡ true) (sym M.right) hy;
       made = subst₂ R (sym M.left) (sym M.right) M;
     }
-
-pub joined_fits : (w : Way) (a b : Model) (j : Joint) → Joined w (reads a) (reads b) j → fitted a ≡ true → fitted b ≡ true → fitted (join j a b) ≡ true
-joined_fits w a b j J ha hb = simp (J.left, J.right, ha, hb) refl

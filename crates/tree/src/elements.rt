@@ -5,15 +5,16 @@ ghost use Rattle.tree.specs.Leaves.{element_laws};
 use port::{Port, Resistor, Storage, Taken};
 use wave::{Ratio, Wave};
 
+// Kept: a port of two kinds is an enum, matched in each method; a `dyn Port` would need a box for each leaf, and joining takes no memory.
 /// What stands at a leaf. Only a capacitor or a coil keeps a wave, and only a resistor can have an ear.
-#[derive(Clone, Copy)]
+#[derive(Clone, Copy, Debug, PartialEq, Eq)]
 pub enum Body {
     Store(Storage),
     Resist(Resistor),
 }
 
 /// An element of a listing; `index` is its place there, counted from 0.
-#[derive(Clone, Copy)]
+#[derive(Clone, Copy, Debug, PartialEq, Eq)]
 pub struct Element {
     pub index: u32,
     pub body: Body,

@@ -8,7 +8,7 @@ use adaptor::Way;
 use std::alloc::{AllocError, Global};
 
 /// A step of reading a tree from left to right: each join stands in brackets, its way between its two parts.
-#[derive(Clone, Copy)]
+#[derive(Clone, Copy, Debug, PartialEq, Eq)]
 pub enum Step {
     Begin,
     One(Element),

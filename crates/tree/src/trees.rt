@@ -22,6 +22,7 @@ pub(crate) struct Tree {
     pub(crate) node: Node,
 }
 
+// Kept: a leaf or a join is an enum, matched in each method; a `dyn Port` would need a box for each leaf, and joining takes no memory.
 #[cycle(tree)]
 #[derive(Drop)]
 pub(crate) enum Node {

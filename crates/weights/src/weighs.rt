@@ -11,6 +11,7 @@ impl Scale {
     pub fn new(rate: u32, unit: u32) -> Option<Scale>
         ensures { MatchOption result (Scaled rate unit → ⊥) (λ s. (s.rate ≡ rate) × (s.unit ≡ unit)) }
     {
+        // Kept: a checked constructor; the struct can be written only where its two bounds are known, which is after this test.
         if rate == 0 || rate > LARGEST_RATE || unit == 0 || unit > LARGEST_UNIT {
             return None;
         }

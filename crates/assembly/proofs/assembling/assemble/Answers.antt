@@ -1,8 +1,7 @@
 use Rattle.std.proofs.Common.{not, refl, ap, ◌∙◌}
 use Rattle.std.proofs.lemmas.Result.{err_from_is_err_and}
 use Rattle.assembly.specs.Beginnings.{Earless}
-use Rattle.assembly.proofs.Passed.{was_some}
-use Rattle.assembly.proofs.Answered.{one_end, Ready, heard, grown, refused, named, unnamed, no_ear, has_ear}
+use Rattle.assembly.proofs.Answered.{one_end, Ready, ready, heard, grown, refused, named, unnamed, no_ear, has_ear}
 use Rattle.assembly.proofs.assembling.assemble.Goals as goal
 use Rattle.assembly.proofs.assembling.assemble.Goals.{else-is_none-via-then-is_none+else-not-is_empty, else-is_none-via-else-is_none}
 
@@ -15,14 +14,12 @@ returns-in_err-scale-clause-only c = one_end
 pub returns-in_err-tree : goal.returns-in_err-tree
 returns-in_err-tree c =
     let p = err_from_is_err_and c.from_residual-in_err-tree.result c.from_residual-in_err-tree.ensures.1 in
-    let z = was_some _ _ c.new.result _ c.ok_or.result c.in_ok-scale.scale c.in_ok-scale.was c.ok_or.ensures.value c.new.ensures in
-    let k : Ready c.args.text.now c.args.ear.now c.args.rate c.args.unit c.in_ok-listing.listing c.ear_of-at.result c.in_ok-scale.scale c.as_slice-elements.result.now c.wire_of.result = record { read = c.in_ok-listing.ensures.answer; hertz = z.0; siemens = z.1; all = c.as_slice-elements.ensures.items; ends = c.wire_of.ensures; eared = c.ear_of-at.ensures } in
+    let k : Ready c.args.text.now c.args.ear.now c.args.rate c.args.unit c.in_ok-listing.listing c.ear_of-at.result c.in_ok-scale.scale c.as_slice-elements.result.now c.wire_of.result = ready c.new.result _ c.ok_or.result c.in_ok-scale.scale c.in_ok-scale.was c.ok_or.ensures.value c.new.ensures c.in_ok-listing.ensures.answer c.as_slice-elements.ensures.items c.wire_of.ensures c.ear_of-at.ensures in
     record { answer = rw (p.1, p.2) (refused c.in_err-tree.field-0.0 k c.in_err-tree.ensures, refl); only = one_end }
 
 pub returns-then-not-is_empty : goal.returns-then-not-is_empty
 returns-then-not-is_empty c =
-    let z = was_some _ _ c.new.result _ c.ok_or.result c.in_ok-scale.scale c.in_ok-scale.was c.ok_or.ensures.value c.new.ensures in
-    let k : Ready c.args.text.now c.args.ear.now c.args.rate c.args.unit c.in_ok-listing.listing c.ear_of-at.result c.in_ok-scale.scale c.as_slice-elements.result.now c.wire_of.result = record { read = c.in_ok-listing.ensures.answer; hertz = z.0; siemens = z.1; all = c.as_slice-elements.ensures.items; ends = c.wire_of.ensures; eared = c.ear_of-at.ensures } in
+    let k : Ready c.args.text.now c.args.ear.now c.args.rate c.args.unit c.in_ok-listing.listing c.ear_of-at.result c.in_ok-scale.scale c.as_slice-elements.result.now c.wire_of.result = ready c.new.result _ c.ok_or.result c.in_ok-scale.scale c.in_ok-scale.was c.ok_or.ensures.value c.new.ensures c.in_ok-listing.ensures.answer c.as_slice-elements.ensures.items c.wire_of.ensures c.ear_of-at.ensures in
     let m = c.in_ok-tree.tree.tree in
     let g = grown m k c.in_ok-tree.ensures in
     let d = c.in_ok-listing.listing in
@@ -31,8 +28,7 @@ returns-then-not-is_empty c =
 
 pub returns : goal.returns
 returns c =
-    let z = was_some _ _ c.new.result _ c.ok_or.result c.in_ok-scale.scale c.in_ok-scale.was c.ok_or.ensures.value c.new.ensures in
-    let k : Ready c.args.text.now c.args.ear.now c.args.rate c.args.unit c.in_ok-listing.listing c.ear_of-at.result c.in_ok-scale.scale c.as_slice-elements.result.now c.wire_of.result = record { read = c.in_ok-listing.ensures.answer; hertz = z.0; siemens = z.1; all = c.as_slice-elements.ensures.items; ends = c.wire_of.ensures; eared = c.ear_of-at.ensures } in
+    let k : Ready c.args.text.now c.args.ear.now c.args.rate c.args.unit c.in_ok-listing.listing c.ear_of-at.result c.in_ok-scale.scale c.as_slice-elements.result.now c.wire_of.result = ready c.new.result _ c.ok_or.result c.in_ok-scale.scale c.in_ok-scale.was c.ok_or.ensures.value c.new.ensures c.in_ok-listing.ensures.answer c.as_slice-elements.ensures.items c.wire_of.ensures c.ear_of-at.ensures in
     let g = grown c.in_ok-tree.tree.tree k c.in_ok-tree.ensures in
     let d = c.in_ok-listing.listing in
     let name = c.args.ear.now in

@@ -1,21 +1,9 @@
-use Rattle.std.proofs.Common.{◌≡◌, sym, ap, ◌∙◌, ap₂, arith}
+use Rattle.std.proofs.Common.{◌≡◌, sym, ap, ◌∙◌, ap₂}
 use Rattle.tree.specs.Models.{join, reads, fitted, cleared}
-use Rattle.tree.specs.Law.{fits_left, fits_right, fits_cleared, stored_most}
-use Rattle.tree.proofs.Caches.{held, rising_cleared}
+use Rattle.tree.specs.Law.{fits_cleared}
+use Rattle.tree.proofs.Caches.{held, stored_sum, rising_cleared}
 use Rattle.tree.proofs.trees.Tree.+clear.Goals as goal
 use Rattle.tree.proofs.trees.Tree.+clear.Goals.{in-Leaf, in-Join}
-
-pub overflow_add-result : goal.overflow_add-result
-overflow_add-result t c =
-    let a = c.in-Join.a.value in
-    let b = c.in-Join.b.value in
-    let j = c.in-Join.k.joint in
-    let h = held c.self.invariant c.in-Join.is in
-    let d₁ : c.deref_mut.result.now ≡ a = c.deref_mut.ensures.value in
-    let d₂ : c.deref_mut-in-Join.result.now ≡ b = c.deref_mut-in-Join.ensures.value in
-    let x : c.clear-x.result ≡ (reads a).stored = simp d₁ at c.clear-x.ensures.dropped in
-    let y : c.clear-y.result ≡ (reads b).stored = simp d₂ at c.clear-y.ensures.dropped in
-    omega (arith, x, y, stored_most a (fits_left j a b h.fits), stored_most b (fits_right j a b h.fits))
 
 pub invariant_of-self : goal.invariant_of-self
 invariant_of-self t c = elim c.match-self.branch [
@@ -33,3 +21,8 @@ invariant_of-self t c = elim c.match-self.branch [
         right = sym (ap (λ s. (reads s).rising) y ∙ rising_cleared b);
       })
 ]
+
+pub overflow_add-result : goal.overflow_add-result
+overflow_add-result t c =
+    stored_sum c.in-Join.k c.in-Join.a.value c.in-Join.b.value _ _ (held c.self.invariant c.in-Join.is)
+    (simp c.deref_mut.ensures.value at c.clear-x.ensures.dropped) (simp c.deref_mut-in-Join.ensures.value at c.clear-y.ensures.dropped)
