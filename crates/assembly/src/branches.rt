@@ -22,6 +22,7 @@ impl Wired for Branch {
 }
 
 // The two ends of an element or of the port, by the numbers of their nodes.
+// Kept: an `Ends` is the reader's and a `Wire` is net's, so this can be no `From`.
 pub(crate) fn wire_of(ends: Ends) -> Wire
     ensures { result ≡ ends_at ends }
 {

@@ -46,7 +46,7 @@ fn weigh_piece(
 fn weigh(rt: &HostRuntime, tree: ListingTree, made: Assembled) -> anyhow::Result<()> {
     let mut stream = listen(tree, source());
     let mut piece = [0; PIECE];
-    // Kept: a loop that waits on input counts, so that it ends.
+    // Kept: a loop that waits on input counts, so that it ends; `filter` has its like, since what is read stands in no contract of a library.
     for _ in 0..u64::MAX {
         let n = rt.stdin().read(&mut piece)?;
         if n == 0 {

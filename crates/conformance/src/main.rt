@@ -60,6 +60,7 @@ fn weigh_piece(
 }
 
 // What `balance` writes.
+// Kept: apart from `filtered`: a piece gives bytes there, and pages and a last page here.
 fn balanced(rt: &HostRuntime, text: &[u8], samples: &[u8], cut: usize) -> anyhow::Result<Vec<u8>> {
     let mut out = Vec::new(rt.alloc());
     let Some((mut stream, made)) = stream_of(rt, text, &mut out)? else {

@@ -26,7 +26,7 @@ fn pour(rt: &HostRuntime, tree: ListingTree) -> anyhow::Result<()> {
     let mut stream = listen(tree, source());
     let mut piece = [0; PIECE];
     let mut out = [0; PIECE + 2];
-    // Kept: a loop that waits on input counts, so that it ends.
+    // Kept: a loop that waits on input counts, so that it ends; `balance` has its like, since what is read stands in no contract of a library.
     for _ in 0..u64::MAX {
         let n = rt.stdin().read(&mut piece)?;
         if n == 0 {

@@ -1,4 +1,5 @@
 // Reads the listings that stdin names, and says of each that it is accepted, or by which rule it is refused and where.
+// Kept: `assemblies` has its like: what is said of a listing is another thing there.
 #![tactic(auto)]
 
 use reader::read;

@@ -8,6 +8,8 @@ use crate::searches::first_past;
 use crate::wired::Wired;
 use crate::wires::{Pair, Wire};
 
+// Kept: the branches beside the port or a node, here and below: a struct of the two, made for one call, is no plainer.
+
 // The first branch from `start` on that ends at the node.
 fn next_at<B: Wired>(branches: &[B], node: usize, start: usize) -> Option<usize>
     ensures { MatchOption result

@@ -65,6 +65,7 @@ pub fn tree_of(
         (λ f. Refuses text.now panel_rate panel_unit (codes "R1") f)) }
 {
     let mut tree = ListingTree::built_in();
+    // Kept: with `map` the tree would have to move into a closure.
     Ok(match prepare(text, Workspace::new(heap)?, &mut tree) {
         Ok(made) => Ok((tree, made)),
         Err(fault) => Err(fault),

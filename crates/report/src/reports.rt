@@ -134,3 +134,17 @@ pub fn report_on<P: Port + Drop, C: BoundedClosing + Drop>(
         ended,
     })
 }
+
+#[cfg(test)]
+mod tests {
+    use super::TooLong;
+    use std::test::Fail;
+
+    #[test]
+    fn says_that_it_is_too_long(rt: HostRuntime) -> Result<(), Fail> {
+        let refusal = TooLong;
+        let line = format!(in rt.alloc(); "{refusal}")?;
+        assert_eq!(rt; line.as_str(), "the recording is too long");
+        Ok(())
+    }
+}

@@ -69,6 +69,7 @@ mod tests {
     use std::test::Fail;
     use wave::WeightRefusal;
 
+    // Kept: this and the door line stand in `tried` too: a crate for the circuits of two tests is no plainer.
     fn capacitor(weight: u32) -> Result<Storage, WeightRefusal> {
         Storage::new(StorageKind::Capacitor, weight)
     }

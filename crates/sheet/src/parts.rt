@@ -24,6 +24,7 @@ pub fn print_elements(rt: &HostRuntime, text: &[u8], listing: &Listing) -> anyho
 }
 
 // The name of the element that stands at this index of the listing.
+// Kept: `listing` has its like over nodes: one `get` of other records.
 fn element_name(
     heap: Global,
     text: &[u8],
