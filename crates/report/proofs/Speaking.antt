@@ -14,11 +14,11 @@ use Rattle.rig.specs.declared.pages.Page.{Page}
 use Rattle.rig.specs.declared.pages.Round.{Round}
 use Rattle.rig.specs.declared.parts.Rig.{Rig}
 use Rattle.report.specs.Accounts.{Empty, CountsRound}
-use Rattle.session.specs.Sessions.{turns, fed}
+use Rattle.session.specs.Sessions.{turns, fed, Plain}
 use Rattle.report.specs.Reports.{longest_silence, quiet, idle_after, Adds, Longer, Hush, Spoken, Rested}
 use Rattle.report.specs.declared.accounts.account.Account.{Account}
 use Rattle.report.specs.declared.reports.Silence.{Silence}
-use Rattle.session.proofs.Sums.{sum-++, swing-++, fed-++, all-++, Comes, round_comes, round_busy, round_fed, round_feeds}
+use Rattle.session.proofs.Sums.{sum-++, swing-++, fed-++, all-++, Comes, round_comes, round_busy, round_fed, round_feeds, round_plain}
 use Rattle.report.proofs.Idle.{idle-++, round_idle, awaits-++, round_awaits}
 
 waves_pairs : (s : List ℕ) → waves_of (take (2 * (length s / 2)) s) ≡ waves_of s
@@ -58,12 +58,13 @@ module _ {P C : Type 0} (ports : PortOf P) (closings : ClosingOf C) where
     pub calls : List Event
     pub run : Run ports closings a calls b
     pub feeds : All (Feeds (λ e. Unit {0})) calls
+    pub plain : All Plain calls
     pub all : fed calls ≡ waves_of (take (2 * i) samples)
     pub adds : Adds p calls x
     pub count : x.entries ≡ p.entries + i
 
   pub said_start : (a : Rig P C) (samples : List ℕ) (p : Account) → Said a samples p 0 p a
-  said_start a samples p = record { calls = []; run = done; feeds = tt; all = refl; adds = adds_none p; count = omega arith }
+  said_start a samples p = record { calls = []; run = done; feeds = tt; plain = tt; all = refl; adds = adds_none p; count = omega arith }
 
   pub said_more : (a : Rig P C) (samples : List ℕ) (p : Account) (i : ℕ) (x : Account) (b : Rig P C) (r : Round) (g : Option Page) (c : Rig P C) (y : Account) → (ss : List (List ℕ)) (d : List ℕ)
       → ss ≡ first_chunks 2 (length samples / 2) samples → length ss ≡ length samples / 2 → i < length ss → Said a samples p i x b
@@ -81,6 +82,7 @@ module _ {P C : Type 0} (ports : PortOf P) (closings : ClosingOf C) where
         calls = s.calls ++ l;
         run = run_more ports closings s.run q;
         feeds = all-++ (Feeds (λ e. Unit {0})) s.calls l s.feeds (round_feeds (λ e. Unit {0}) e r g tt);
+        plain = all-++ Plain s.calls l s.plain (round_plain e r g);
         all = fed-++ s.calls l ∙ ap₂ (λ (u : List ℤ) (w : List ℤ). u ++ w) s.all (round_fed e r g) ∙ sym (ap waves_of (taken_two samples i h) ∙ waves_more (take (2 * i) samples) _ _ even);
         adds = adds_round p x y s.calls e r g s.adds k;
         count = omega (arith, s.count, k.entries);
@@ -92,7 +94,7 @@ module _ {P C : Type 0} (ports : PortOf P) (closings : ClosingOf C) where
       let t : waves_of (take (2 * i) samples) ≡ waves_of samples = ap (λ n. waves_of (take (2 * n) samples)) h ∙ waves_pairs samples in
       record {
         calls = s.calls;
-        speech = record { run = s.run; feeds = s.feeds; all = s.all ∙ t };
+        speech = record { run = s.run; feeds = s.feeds; plain = s.plain; all = s.all ∙ t };
         entries = omega (arith, s.adds.entries, z.entries);
         few = omega (arith, s.count, z.entries);
         absorbed = omega (arith, s.adds.absorbed, z.absorbed);
@@ -112,7 +114,7 @@ module _ {P C : Type 0} (ports : PortOf P) (closings : ClosingOf C) where
   pub hushed_start : (b : Rig P C) (p : Account) (s : Silence) → s.rounds ≡ 0 → s.busy ≡ 0 → s.idle ≡ 0 → Hushed b p s p b
   hushed_start b p s n u v = record {
     calls = [];
-    hush = record { run = done; silent = tt; rounds = n; busy = u; idle = v; until = tt; few = omega (arith, n) };
+    hush = record { run = done; silent = tt; plain = tt; rounds = n; busy = u; idle = v; until = tt; few = omega (arith, n) };
     adds = adds_none p;
     busy_most = omega (arith, n, u);
     idle_most = omega (arith, n, v);
@@ -133,6 +135,7 @@ module _ {P C : Type 0} (ports : PortOf P) (closings : ClosingOf C) where
         hush = record {
           run = run_more ports closings S.run q;
           silent = all-++ (Feeds (λ e. e ≡ pos 0)) ys l S.silent (round_feeds (λ e. e ≡ pos 0) (pos 0) r g refl);
+          plain = all-++ Plain ys l S.plain (round_plain (pos 0) r g);
           rounds = omega (arith, L.rounds, S.rounds, sum-++ (λ x. of_round (λ z. 1) x + of_clear (λ z. 1) x) ys l, (round_comes (pos 0) r g).entered);
           busy = omega (arith, L.busy, S.busy, sum-++ (of_round (λ x. min 1 (x.shortened + x.absorbed))) ys l, round_busy (pos 0) r g);
           idle = L.idle ∙ ap (λ n. cond (eqb (r.shortened + r.absorbed) 0) (n + 1) 0) S.idle ∙ sym (idle-++ ys l 0 ∙ round_idle (idle_after 0 ys) (pos 0) r g);

@@ -3,13 +3,14 @@ use Rattle.std.specs.Prelude.{◌≡◌, ℕ, ◌+◌, ◌*◌, ◌<◌, ◌≤�
 use Rattle.port.specs.declared.meaning.Port.{Ghosts as PortOf}
 use Rattle.closing.specs.declared.meaning.Closing.{Ghosts as ClosingOf}
 use Rattle.rig.specs.Blocks.{waves_of}
+use Rattle.rig.specs.Energy.{Promises}
 use Rattle.rig.specs.Pages.{Fresh}
 use Rattle.rig.specs.Runs.{Event, Run, All, Feeds, entries, absorbed, dropped, shortened, swing, busy}
 use Rattle.rig.specs.Runs.Event.{feed, raise, answer, withdraw, clear, turn}
 use Rattle.rig.specs.declared.pages.Page.{Page}
 use Rattle.rig.specs.declared.pages.Round.{Round}
 use Rattle.rig.specs.declared.parts.Rig.{Rig}
-use Rattle.session.specs.Sessions.{turns, fed}
+use Rattle.session.specs.Sessions.{turns, fed, Plain}
 use Rattle.report.specs.declared.accounts.Weighing.{Weighing}
 use Rattle.report.specs.declared.accounts.account.Account.{Account}
 use Rattle.report.specs.declared.reports.Report.{Report}
@@ -86,16 +87,18 @@ pub record Longer (s : Silence) (x : Round) (s' : Silence) : Type 0 where
   pub idle : s'.idle ≡ cond (x.shortened + x.absorbed == 0) (s.idle + 1) 0
 
 module _ {P C : Type 0} (ports : PortOf P) (closings : ClosingOf C) where
-  -- the samples are fed one by one, with no other round
+  -- the samples are fed one by one, and nothing else is done
   pub record Speech (a : Rig P C) (samples : List ℕ) (xs : List Event) (b : Rig P C) : Type 0 where
     pub run : Run ports closings a xs b
     pub feeds : All (Feeds (λ e. Unit {0})) xs
+    pub plain : All Plain xs
     pub all : fed xs ≡ waves_of samples
 
-  -- feeds of 0, and none once the filter is quiet or the longest silence is over
+  -- feeds of 0 and nothing else, and none once the filter is quiet or the longest silence is over
   pub record Hush (b : Rig P C) (ys : List Event) (s : Silence) (c : Rig P C) : Type 0 where
     pub run : Run ports closings b ys c
     pub silent : All (Feeds (λ e. e ≡ pos 0)) ys
+    pub plain : All Plain ys
     pub rounds : s.rounds ≡ entries ys
     pub busy : s.busy ≡ busy ys
     pub idle : s.idle ≡ idle_after 0 ys
@@ -118,12 +121,13 @@ module _ {P C : Type 0} (ports : PortOf P) (closings : ClosingOf C) where
     pub adds : Adds x calls y
     pub over : (s.rounds ≡ longest_silence) ⊎ (quiet ≤ s.idle)
 
-  -- a rig is made of the port and the closing, fed the samples, then silence, and cleared
+  -- a rig is made of the port and the closing, with all that a new rig promises, fed the samples, then silence, and cleared
   pub record Reported (p : P) (k : C) (samples : List ℕ) (r : Report) : Type 0 where
     pub made : Rig P C
     pub port : made.port ≡ p
     pub closing : made.closing ≡ k
     pub fresh : Fresh (ports.reads p).stored made.tally
+    pub promises : Promises ports closings made
     pub speech : List Event
     pub spoken : Rig P C
     pub speaks : Speech made samples speech spoken

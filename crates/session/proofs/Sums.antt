@@ -7,7 +7,7 @@ use Rattle.rig.specs.Runs.{Event, All, Feeds, sum, entries, absorbed, dropped, s
 use Rattle.rig.specs.Runs.Event.{feed, clear}
 use Rattle.rig.specs.declared.pages.Page.{Page}
 use Rattle.rig.specs.declared.pages.Round.{Round}
-use Rattle.session.specs.Sessions.{turns, fed}
+use Rattle.session.specs.Sessions.{turns, fed, Plain}
 
 pub sum-++ : (g : Event → ℕ) (xs ys : List Event) → sum g (xs ++ ys) ≡ sum g xs + sum g ys
 sum-++ g [] ys = omega arith
@@ -55,3 +55,7 @@ round_fed e x (Some p) = refl
 pub round_feeds : (Q : ℤ → Type 0) (e : ℤ) (x : Round) (p : Option Page) → Q e → All (Feeds Q) (feed e (Ok x) ∷ turns p)
 round_feeds Q e x None h = (h, tt)
 round_feeds Q e x (Some p) h = (h, (tt, tt))
+
+pub round_plain : (e : ℤ) (x : Round) (p : Option Page) → All Plain (feed e (Ok x) ∷ turns p)
+round_plain e x None = (tt, tt)
+round_plain e x (Some p) = (tt, (tt, tt))

@@ -24,6 +24,12 @@ fed [] = []
 fed (feed e (Ok x) ∷ xs) = e ∷ fed xs
 fed (other ∷ xs) = fed xs
 
+-- an accepted feed or an accepted turn, and no other call
+abbrev pub Plain : Event → Type 0
+Plain (feed e (Ok x)) = Unit {0}
+Plain (turn (Ok p)) = Unit {0}
+Plain other = ⊥
+
 -- there is a page exactly if a had one entry left
 abbrev pub Fills : {P C : Type 0} → Rig P C → Option Page → Type 0
 Fills a None = a.tally.entries + 1 < page_length

@@ -13,8 +13,8 @@ use Rattle.rig.proofs.Blocked.{run_more}
 use Rattle.rig.specs.declared.pages.Page.{Page}
 use Rattle.rig.specs.declared.pages.Round.{Round}
 use Rattle.rig.specs.declared.parts.Rig.{Rig}
-use Rattle.session.specs.Sessions.{turns, Fills}
-use Rattle.session.proofs.Sums.{fed-++, all-++, round_fed, round_feeds}
+use Rattle.session.specs.Sessions.{turns, Plain, Fills}
+use Rattle.session.proofs.Sums.{fed-++, all-++, round_fed, round_feeds, round_plain}
 use Rattle.stream.specs.Pieces.{left_over, round_of, page_of, rounds, turned, Full, Pieced, WhateverTheCuts}
 
 waves_cut : (xs ys : List ℕ) → waves_of (xs ++ ys) ≡ waves_of xs ++ waves_of (left_over xs ++ ys)
@@ -53,6 +53,7 @@ module _ {P C : Type 0} (ports : PortOf P) (closings : ClosingOf C) where
         calls = A.calls ++ B.calls;
         run = run_more ports closings A.run B.run;
         feeds = all-++ (Feeds (λ e. Unit {0})) A.calls B.calls A.feeds B.feeds;
+        plain = all-++ Plain A.calls B.calls A.plain B.plain;
         samples = fed-++ A.calls B.calls ∙ ap₂ (λ (t : List ℤ) (u : List ℤ). t ++ u) A.samples (B.samples ∙ ap (λ (t : List ℕ). waves_of (t ++ y)) A.waits)
             ∙ sym (ap waves_of s ∙ waves_cut w y);
         heard = ap₂ (λ (t : List ℕ) (u : List ℕ). t ++ u) A.heard B.heard ∙ sym (ap heard_bytes (flat_map-append round_of A.calls B.calls) ∙ heard-++ (rounds A.calls) (rounds B.calls));
@@ -63,13 +64,13 @@ module _ {P C : Type 0} (ports : PortOf P) (closings : ClosingOf C) where
 
   -- nothing yet
   pub no_piece : (a : Rig P C) (l : Option ℕ) → Pieced ports closings a l [] [] [] a l
-  no_piece a None = record { calls = []; run = done; feeds = tt; samples = refl; heard = refl; turns = refl; full = tt; waits = refl }
-  no_piece a (Some b) = record { calls = []; run = done; feeds = tt; samples = refl; heard = refl; turns = refl; full = tt; waits = refl }
+  no_piece a None = record { calls = []; run = done; feeds = tt; plain = tt; samples = refl; heard = refl; turns = refl; full = tt; waits = refl }
+  no_piece a (Some b) = record { calls = []; run = done; feeds = tt; plain = tt; samples = refl; heard = refl; turns = refl; full = tt; waits = refl }
 
   -- a byte that waits
   pub first_byte : (a : Rig P C) (l : Option ℕ) (b : ℕ) → l ≡ None → Pieced ports closings a l (b ∷ []) [] [] a (Some b)
   first_byte a l b e = subst (λ (t : Option ℕ). Pieced ports closings a t (b ∷ []) [] [] a (Some b)) (sym e)
-      record { calls = []; run = done; feeds = tt; samples = refl; heard = refl; turns = refl; full = tt; waits = refl }
+      record { calls = []; run = done; feeds = tt; plain = tt; samples = refl; heard = refl; turns = refl; full = tt; waits = refl }
 
   filled : (a : Rig P C) (e : ℤ) (x : Round) (p : Option Page) (b : Rig P C) → Run ports closings a (feed e (Ok x) ∷ turns p) b → Fills a p → Full (option_to_list p)
   filled a e x None b r f = tt
@@ -83,6 +84,7 @@ module _ {P C : Type 0} (ports : PortOf P) (closings : ClosingOf C) where
     calls = feed (sample_wave low b) (Ok x) ∷ turns p;
     run = r;
     feeds = round_feeds (λ e. Unit {0}) (sample_wave low b) x p tt;
+    plain = round_plain (sample_wave low b) x p;
     samples = round_fed (sample_wave low b) x p ∙ ap (λ t. waves_of (option_to_list t ++ (b ∷ []))) (sym e);
     heard = h ∙ sym (ap heard_bytes (round_rounds (sample_wave low b) x p) ∙ append-nil (sample_bytes x.heard));
     turns = sym (round_turned (sample_wave low b) x p);

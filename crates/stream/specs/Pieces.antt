@@ -11,7 +11,7 @@ use Rattle.rig.specs.Runs.Event.{feed, raise, answer, withdraw, clear, turn}
 use Rattle.rig.specs.declared.pages.Page.{Page}
 use Rattle.rig.specs.declared.pages.Round.{Round}
 use Rattle.rig.specs.declared.parts.Rig.{Rig}
-use Rattle.session.specs.Sessions.{fed}
+use Rattle.session.specs.Sessions.{fed, Plain}
 use Rattle.stream.specs.declared.streams.state.Heard.{Heard}
 
 -- the last byte of an odd number of bytes
@@ -65,12 +65,13 @@ Halves None l m = (l ≡ None) × IsSome m
 Halves (Some h) l m = IsSome l × (m ≡ None) × (length h.bytes ≡ 2)
 
 module _ {P C : Type 0} (ports : PortOf P) (closings : ClosingOf C) where
-  -- the rig a, with a byte that waits or none, gets the bytes of a piece: each sample that is whole by then is fed, `out` is what was heard of them,
-  -- `pages` are those that filled, and a lone last byte waits
+  -- the rig a, with a byte that waits or none, gets the bytes of a piece: each sample that is whole by then is fed and nothing else is done, `out` is what was
+  -- heard of them, `pages` are those that filled, and a lone last byte waits
   pub record Pieced (a : Rig P C) (low : Option ℕ) (piece : List ℕ) (out : List ℕ) (pages : List Page) (b : Rig P C) (low' : Option ℕ) : Type 0 where
     pub calls : List Event
     pub run : Run ports closings a calls b
     pub feeds : All (Feeds (λ e. Unit {0})) calls
+    pub plain : All Plain calls
     pub samples : fed calls ≡ waves_of (option_to_list low ++ piece)
     pub heard : out ≡ heard_bytes (rounds calls)
     pub turns : pages ≡ turned calls

@@ -35,6 +35,7 @@ returns g c =
           port = made.port;
           closing = made.closing;
           fresh = made.tally;
+          promises = c.new-session.ensures.promises;
           speech = E.calls;
           spoken = spoken;
           speaks = E.speech;
