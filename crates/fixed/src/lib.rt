@@ -1,7 +1,7 @@
 // Room for at most N items, with no allocation.
 #![tactic(auto)]
 
-ghost use Rattle.std.specs.Prelude.{◌≡◌, ◌<◌, ◌≤◌, [], ◌∷◌, ◌++◌, length, take, MatchResult};
+ghost use Rattle.std.specs.Prelude.{◌≡◌, ◌<◌, ◌≤◌, [], ◌∷◌, ◌++◌, length, take, OnErr, MatchResult};
 
 mod room;
 
@@ -33,6 +33,7 @@ impl<T: Copy, const N: usize> Fixed<T, N> {
     pub fn push(&mut self, item: T) -> Result<(), Full>
         ensures room { MatchResult result (λ _. length self.old < N) (λ _. N ≤ length self.old) }
         ensures items { self.new ≡ take N (self.old ++ item ∷ []) }
+        ensures kept { OnErr result (self.new ≡ self.old) }
     {
         if self.len == N {
             return Err(Full);
