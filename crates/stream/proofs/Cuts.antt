@@ -15,7 +15,7 @@ use Rattle.rig.specs.declared.pages.Round.{Round}
 use Rattle.rig.specs.declared.parts.Rig.{Rig}
 use Rattle.session.specs.Sessions.{turns, Plain, Fills}
 use Rattle.session.proofs.Sums.{fed-++, all-++, round_fed, round_feeds, round_plain}
-use Rattle.stream.specs.Pieces.{left_over, round_of, page_of, rounds, turned, Full, Pieced, WhateverTheCuts}
+use Rattle.stream.specs.Pieces.{left_over, round_of, page_of, rounds, turned, Full, PieceFed, Pieced, AreOne, WhateverTheCuts}
 
 waves_cut : (xs ys : List ℕ) → waves_of (xs ++ ys) ≡ waves_of xs ++ waves_of (left_over xs ++ ys)
 waves_cut [] ys = refl
@@ -45,15 +45,14 @@ round_turned e x None = refl
 round_turned e x (Some p) = refl
 
 module _ {P C : Type 0} (ports : PortOf P) (closings : ClosingOf C) where
-  pub whatever_the_cuts : WhateverTheCuts {P = P} {C = C} ports closings
-  whatever_the_cuts a b c l m n x y o q p r A B =
+  pieces_fed : AreOne {P = P} {C = C} ports closings (PieceFed ports closings)
+  pieces_fed a b c l m n x y o q p r A B =
       let w = option_to_list l ++ x in
       let s : option_to_list l ++ (x ++ y) ≡ w ++ y = sym (append_assoc (option_to_list l) x y) in
       record {
         calls = A.calls ++ B.calls;
         run = run_more ports closings A.run B.run;
         feeds = all-++ (Feeds (λ e. Unit {0})) A.calls B.calls A.feeds B.feeds;
-        plain = all-++ Plain A.calls B.calls A.plain B.plain;
         samples = fed-++ A.calls B.calls ∙ ap₂ (λ (t : List ℤ) (u : List ℤ). t ++ u) A.samples (B.samples ∙ ap (λ (t : List ℕ). waves_of (t ++ y)) A.waits)
             ∙ sym (ap waves_of s ∙ waves_cut w y);
         heard = ap₂ (λ (t : List ℕ) (u : List ℕ). t ++ u) A.heard B.heard ∙ sym (ap heard_bytes (flat_map-append round_of A.calls B.calls) ∙ heard-++ (rounds A.calls) (rounds B.calls));
@@ -62,15 +61,25 @@ module _ {P C : Type 0} (ports : PortOf P) (closings : ClosingOf C) where
         waits = B.waits ∙ ap (λ (t : List ℕ). left_over (t ++ y)) A.waits ∙ sym (ap left_over s ∙ over_cut w y);
       }
 
+  pub pieces_joined : AreOne {P = P} {C = C} ports closings (Pieced ports closings)
+  unfolding pieces_fed
+  pieces_joined a b c l m n x y o q p r A B = record {
+    bytes = pieces_fed a b c l m n x y o q p r A.bytes B.bytes;
+    plain = all-++ Plain A.bytes.calls B.bytes.calls A.plain B.plain;
+  }
+
+  pub whatever_the_cuts : WhateverTheCuts {P = P} {C = C} ports closings
+  whatever_the_cuts = (pieces_fed, pieces_joined)
+
   -- nothing yet
   pub no_piece : (a : Rig P C) (l : Option ℕ) → Pieced ports closings a l [] [] [] a l
-  no_piece a None = record { calls = []; run = done; feeds = tt; plain = tt; samples = refl; heard = refl; turns = refl; full = tt; waits = refl }
-  no_piece a (Some b) = record { calls = []; run = done; feeds = tt; plain = tt; samples = refl; heard = refl; turns = refl; full = tt; waits = refl }
+  no_piece a None = record { bytes = record { calls = []; run = done; feeds = tt; samples = refl; heard = refl; turns = refl; full = tt; waits = refl }; plain = tt }
+  no_piece a (Some b) = record { bytes = record { calls = []; run = done; feeds = tt; samples = refl; heard = refl; turns = refl; full = tt; waits = refl }; plain = tt }
 
   -- a byte that waits
   pub first_byte : (a : Rig P C) (l : Option ℕ) (b : ℕ) → l ≡ None → Pieced ports closings a l (b ∷ []) [] [] a (Some b)
   first_byte a l b e = subst (λ (t : Option ℕ). Pieced ports closings a t (b ∷ []) [] [] a (Some b)) (sym e)
-      record { calls = []; run = done; feeds = tt; plain = tt; samples = refl; heard = refl; turns = refl; full = tt; waits = refl }
+      record { bytes = record { calls = []; run = done; feeds = tt; samples = refl; heard = refl; turns = refl; full = tt; waits = refl }; plain = tt }
 
   filled : (a : Rig P C) (e : ℤ) (x : Round) (p : Option Page) (b : Rig P C) → Run ports closings a (feed e (Ok x) ∷ turns p) b → Fills a p → Full (option_to_list p)
   filled a e x None b r f = tt
@@ -81,13 +90,15 @@ module _ {P C : Type 0} (ports : PortOf P) (closings : ClosingOf C) where
       → Run ports closings a (feed (sample_wave low b) (Ok x) ∷ turns p) c → Fills a p → out ≡ sample_bytes x.heard
       → Pieced ports closings a l (b ∷ []) out (option_to_list p) c m
   second_byte a l m low b x p out c e n r f h = record {
-    calls = feed (sample_wave low b) (Ok x) ∷ turns p;
-    run = r;
-    feeds = round_feeds (λ e. Unit {0}) (sample_wave low b) x p tt;
+    bytes = record {
+      calls = feed (sample_wave low b) (Ok x) ∷ turns p;
+      run = r;
+      feeds = round_feeds (λ e. Unit {0}) (sample_wave low b) x p tt;
+      samples = round_fed (sample_wave low b) x p ∙ ap (λ t. waves_of (option_to_list t ++ (b ∷ []))) (sym e);
+      heard = h ∙ sym (ap heard_bytes (round_rounds (sample_wave low b) x p) ∙ append-nil (sample_bytes x.heard));
+      turns = sym (round_turned (sample_wave low b) x p);
+      full = filled a (sample_wave low b) x p c r f;
+      waits = ap option_to_list n ∙ ap (λ t. left_over (option_to_list t ++ (b ∷ []))) (sym e);
+    };
     plain = round_plain (sample_wave low b) x p;
-    samples = round_fed (sample_wave low b) x p ∙ ap (λ t. waves_of (option_to_list t ++ (b ∷ []))) (sym e);
-    heard = h ∙ sym (ap heard_bytes (round_rounds (sample_wave low b) x p) ∙ append-nil (sample_bytes x.heard));
-    turns = sym (round_turned (sample_wave low b) x p);
-    full = filled a (sample_wave low b) x p c r f;
-    waits = ap option_to_list n ∙ ap (λ t. left_over (option_to_list t ++ (b ∷ []))) (sym e);
   }

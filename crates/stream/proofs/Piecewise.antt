@@ -10,7 +10,7 @@ use Rattle.rig.specs.declared.pages.Page.{Page}
 use Rattle.rig.specs.declared.parts.Rig.{Rig}
 use Rattle.stream.specs.Pieces.{Halves, heard_of, pages_of, Pieced}
 use Rattle.stream.specs.declared.streams.state.Heard.{Heard}
-use Rattle.stream.proofs.Cuts.{whatever_the_cuts}
+use Rattle.stream.proofs.Cuts.{pieces_joined}
 
 -- every byte comes out again, but for the one that waits
 pub halves_count : (x : Option Heard) (l m : Option ℕ) → Halves x l m → length (heard_of x) + length (option_to_list m) ≡ length (option_to_list l) + 1
@@ -51,4 +51,4 @@ module _ {P C : Type 0} (ports : PortOf P) (closings : ClosingOf C) where
       → Pieced ports closings a l (take (i + 1) piece) (o ++ q) (p ++ r) c n
   byte_more a b c l m n piece o q i p r h A B =
       subst (λ (t : List ℕ). Pieced ports closings a l t (o ++ q) (p ++ r) c n) (sym (take_more piece i 0 h))
-      (whatever_the_cuts ports closings a b c l m n (take i piece) (get_or piece i 0 ∷ []) o q p r A B)
+      (pieces_joined ports closings a b c l m n (take i piece) (get_or piece i 0 ∷ []) o q p r A B)

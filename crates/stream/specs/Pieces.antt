@@ -65,20 +65,28 @@ Halves None l m = (l ≡ None) × IsSome m
 Halves (Some h) l m = IsSome l × (m ≡ None) × (length h.bytes ≡ 2)
 
 module _ {P C : Type 0} (ports : PortOf P) (closings : ClosingOf C) where
-  -- the rig a, with a byte that waits or none, gets the bytes of a piece: each sample that is whole by then is fed and nothing else is done, `out` is what was
-  -- heard of them, `pages` are those that filled, and a lone last byte waits
-  pub record Pieced (a : Rig P C) (low : Option ℕ) (piece : List ℕ) (out : List ℕ) (pages : List Page) (b : Rig P C) (low' : Option ℕ) : Type 0 where
+  -- the rig a, with a byte that waits or none, gets the bytes of a piece: each sample that is whole by then is fed, `out` is what was heard of them,
+  -- `pages` are those that filled, and a lone last byte waits. What is no round may be called in between.
+  pub record PieceFed (a : Rig P C) (low : Option ℕ) (piece : List ℕ) (out : List ℕ) (pages : List Page) (b : Rig P C) (low' : Option ℕ) : Type 0 where
     pub calls : List Event
     pub run : Run ports closings a calls b
     pub feeds : All (Feeds (λ e. Unit {0})) calls
-    pub plain : All Plain calls
     pub samples : fed calls ≡ waves_of (option_to_list low ++ piece)
     pub heard : out ≡ heard_bytes (rounds calls)
     pub turns : pages ≡ turned calls
     pub full : Full pages
     pub waits : option_to_list low' ≡ left_over (option_to_list low ++ piece)
 
+  -- the same, and nothing else is done
+  pub record Pieced (a : Rig P C) (low : Option ℕ) (piece : List ℕ) (out : List ℕ) (pages : List Page) (b : Rig P C) (low' : Option ℕ) : Type 0 where
+    pub bytes : PieceFed a low piece out pages b low'
+    pub plain : All Plain bytes.calls
+
   -- two pieces, one after the other, are one piece
+  abbrev pub AreOne : (Rig P C → Option ℕ → List ℕ → List ℕ → List Page → Rig P C → Option ℕ → Type 0) → Type 0
+  AreOne Piece = (a b c : Rig P C) (l m n : Option ℕ) (x y o q : List ℕ) (p r : List Page)
+      → Piece a l x o p b m → Piece b m y q r c n → Piece a l (x ++ y) (o ++ q) (p ++ r) c n
+
+  -- this is so of all pieces, and of those in which nothing else is done
   abbrev pub WhateverTheCuts : Type 0
-  WhateverTheCuts = (a b c : Rig P C) (l m n : Option ℕ) (x y o q : List ℕ) (p r : List Page)
-      → Pieced a l x o p b m → Pieced b m y q r c n → Pieced a l (x ++ y) (o ++ q) (p ++ r) c n
+  WhateverTheCuts = AreOne PieceFed × AreOne Pieced
