@@ -35,12 +35,19 @@ impl Tree {
 }
 
 impl ListingTree {
-    /// The tree's steps: its elements as they are now, and how they are joined.
+    /// Adds the tree's steps to `out`: its elements as they are now, and how they are joined.
+    pub fn add_shape(&self, out: &mut Vec<Step>) -> Result<(), AllocError>
+        ensures { OnOk result (out.new.items ≡ out.old.items ++ steps self.now.tree) }
+    {
+        self.tree.steps(out)
+    }
+
+    /// The tree's steps, in a list of their own.
     pub fn shape(&self, heap: Global) -> Result<Vec<Step>, AllocError>
         ensures { IfOk result (λ v. v.items ≡ steps self.now.tree) }
     {
         let mut out = Vec::new(heap);
-        self.tree.steps(&mut out)?;
+        self.add_shape(&mut out)?;
         Ok(out)
     }
 }
