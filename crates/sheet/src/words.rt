@@ -45,13 +45,19 @@ fn print_marked(rt: &HostRuntime, text: &[u8], place: usize) -> anyhow::Result<(
         None => 0,
     };
     let line = text[start..].split(|b| *b == LINE_FEED).next();
-    let mut out = rt.stdout();
-    out.write_all(line.unwrap_or(&[]))?;
-    out.write_all(b"\n")?;
+    let line = line.unwrap_or(&[]);
+    // standard output keeps nothing back, so the line goes out whole, and so does the mark
+    let mut shown = Vec::with_capacity(rt.alloc(), line.len() + 1)?;
+    shown.extend_from_slice(line)?;
+    shown.push(LINE_FEED)?;
+    let mut mark = Vec::new(rt.alloc());
     for b in &before[start..] {
-        out.write_all(if *b == TAB { b"\t" } else { b" " })?;
+        mark.push(if *b == TAB { TAB } else { b' ' })?;
     }
-    out.write_all(b"^\n")?;
+    mark.extend_from_slice(b"^\n")?;
+    let mut out = rt.stdout();
+    out.write_all(&shown)?;
+    out.write_all(&mark)?;
     Ok(())
 }
 
