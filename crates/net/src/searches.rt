@@ -18,8 +18,8 @@ pub(crate) fn first_past<B: Wired, F: Fn(Wire) -> bool>(
 {
     let past = branches
         .iter()
-        .map(|b| b.wire())
         .skip(start)
+        .map(|b| b.wire())
         .position(|w| test(w))?;
     Some(start + past)
 }
