@@ -1,7 +1,9 @@
 -- The laws of a commutative ring for the integers, as far as lib.IntN lacks them; sizes and squares.
 use mathlib.Core.Path.{◌≡◌, refl, sym, ap, ◌∙◌}
-use Prim.Native.Nat.{ℕ, zero, suc, ◌*◌, ◌≤◌}
+use Prim.Native.Nat.{ℕ, zero, suc, ◌*◌, ◌≤◌, ◌^◌}
 use native.Mathlib.Nat.{mul-add, add-mul, mul_assoc, mul-le-mul}
+use mir.Val.{SFits}
+use mir.Syntax.{w64}
 use native.Mathlib.Omega.{arith}
 use borrow.Author.Differences.{up, down, same_in, product_is, sum_is_lem, ints}
 use lib.IntN.{ℤ, pos, negsuc, neg_ℤ, nat_abs, ◌+ℤ◌, ◌*ℤ◌, +ℤ_assoc, +ℤ_comm, *ℤ_comm}
@@ -49,6 +51,10 @@ nat_abs_mul (pos a) (pos b) = refl
 nat_abs_mul (pos a) (negsuc b) = nat_abs_neg (a * suc b)
 nat_abs_mul (negsuc a) (pos b) = nat_abs_neg (suc a * b)
 nat_abs_mul (negsuc a) (negsuc b) = refl
+
+pub sfits_of : (z : ℤ) → nat_abs z ≤ 2 ^ 62 → SFits w64 z
+sfits_of (pos n) h = record { sfits = omega arith }
+sfits_of (negsuc n) h = record { sfits = omega arith }
 
 pub nat_abs_neg_ℤ : (z : ℤ) → nat_abs (neg_ℤ z) ≡ nat_abs z
 nat_abs_neg_ℤ (pos n) = nat_abs_neg n
